@@ -1,0 +1,2 @@
+-- Laws of places and links. They hold nothing to believe.
+pub mod PlaceLaws

@@ -1,0 +1,247 @@
+-- Laws of places and links: block and place determine each other, a link's two ends are inside, a block's neighbours are those across its own three links and
+-- the three that end in it, and a sum over blocks of what links bring is a sum over links.
+-- Assumes nothing.
+use mathlib.Core.Path.{_≡_, refl, sym, ap, _∙_, subst}
+use mathlib.Core.Logic.{_⊎_, inl, inr}
+use mathlib.Core.Bool.{Bool, _&&_}
+use Prim.Native.Nat.{ℕ, zero, suc, _+_, _*_, _-_, _/_, _%_, _≤_, _<_}
+use native.Mathlib.Nat.{div-add-mod', mod-lt, div-lt-iff-lt-mul}
+use native.Mathlib.Omega.{arith}
+use native.Mathlib.Decide.{ℕ-discrete}
+use lib.Arith.{digits-lt, digits-div, digits-mod}
+use lib.Dec.{T, ltb, leb, ltb→lt, lt→ltb, leb→le, le→leb}
+use lib.IntN.{ℤ, _+ℤ_}
+use Rattle.whole.specs.Sum.{only, sum, back}
+use Rattle.whole.proofs.SumLaws.{only-add, only-and, only-off, sum-same, sum-add, sum-move}
+use Rattle.whole.proofs.SearchLaws.{both, joint, same-test}
+use Rattle.grid.specs.declared.Grid.{Grid}
+use Rattle.grid.specs.declared.place.Place.{Place}
+use Rattle.grid.specs.Place.{blocksOf, Counted, placeOf, blockAt, Inside, coordinateOf, extentOf, strideOf, hasNext, hasPrevious, nextOf, previousOf, Beside}
+
+-- an axis that is neither 0 nor 1 leads above
+pub above-axis : (d : ℕ) → (d ≡ 0 → ⊥) → (d ≡ 1 → ⊥) → (e : ℕ) × (d ≡ suc (suc e))
+above-axis zero h k = absurd (h refl)
+above-axis (suc zero) h k = absurd (k refl)
+above-axis (suc (suc e)) h k = (e, refl)
+
+-- ---- block and place
+
+module _ (g : Grid) (counted : Counted g) where
+  pub place-block : (p : Place) → Inside g p → placeOf g (blockAt g p) ≡ p
+  unfolding placeOf blockAt
+  place-block p inside =
+      let line = p .layer * g .rows + p .row in
+      let over : (line * g .columns + p .column) / g .columns ≡ line = digits-div line (inside .column) in
+      λ k. record {
+        column = digits-mod line (inside .column) k;
+        row = (ap (λ (n : ℕ). n % g .rows) over ∙ digits-mod (p .layer) (inside .row)) k;
+        layer = (ap (λ (n : ℕ). n / g .rows) over ∙ digits-div (p .layer) (inside .row)) k;
+      }
+
+  pub block-place : (i : ℕ) → blockAt g (placeOf g i) ≡ i
+  unfolding placeOf blockAt
+  block-place i = ap (λ (line : ℕ). line * g .columns + i % g .columns) (div-add-mod' (i / g .columns) (g .rows)) ∙ div-add-mod' i (g .columns)
+
+  pub block-inside : (p : Place) → Inside g p → blockAt g p < blocksOf g
+  unfolding blockAt
+  block-inside p inside = omega (arith, digits-lt (digits-lt (inside .layer) (inside .row)) (inside .column))
+
+  pub place-inside : (i : ℕ) → i < blocksOf g → Inside g (placeOf g i)
+  unfolding placeOf
+  place-inside i l = record { column = mod-lt i (counted .columns-some); row = mod-lt (i / g .columns) (counted .rows-some); layer = layer }
+    where
+      line : i / g .columns < g .layers * g .rows
+      line = div-lt-iff-lt-mul (counted .columns-some) .1 (omega arith)
+
+      layer : i / g .columns / g .rows < g .layers
+      layer = div-lt-iff-lt-mul (counted .rows-some) .1 line
+
+-- ---- one step along an axis
+
+moved : Place → ℕ → Place
+moved p zero = record { column = p .column + 1; row = p .row; layer = p .layer }
+moved p (suc zero) = record { column = p .column; row = p .row + 1; layer = p .layer }
+moved p (suc (suc d)) = record { column = p .column; row = p .row; layer = p .layer + 1 }
+
+module _ (g : Grid) where
+  moved-block : (p : Place) (d : ℕ) → blockAt g (moved p d) ≡ blockAt g p + strideOf g d
+  unfolding moved blockAt
+  moved-block p zero = omega arith
+  moved-block p (suc zero) = omega arith
+  moved-block p (suc (suc d)) = omega arith
+
+  moved-inside : (p : Place) (d : ℕ) → Inside g p → T (hasNext g p d) → Inside g (moved p d)
+  unfolding moved hasNext
+  moved-inside p zero i t = record { column = ltb→lt _ _ t; row = i .row; layer = i .layer }
+  moved-inside p (suc zero) i t = record { column = i .column; row = ltb→lt _ _ t; layer = i .layer }
+  moved-inside p (suc (suc d)) i t = record { column = i .column; row = i .row; layer = ltb→lt _ _ t }
+
+-- one step back
+earlier : Place → ℕ → Place
+earlier p zero = record { column = p .column - 1; row = p .row; layer = p .layer }
+earlier p (suc zero) = record { column = p .column; row = p .row - 1; layer = p .layer }
+earlier p (suc (suc d)) = record { column = p .column; row = p .row; layer = p .layer - 1 }
+
+on-again : (n : ℕ) → T (ltb 0 n) → n - 1 + 1 ≡ n
+on-again n t = omega (arith, ltb→lt 0 n t)
+
+within-again : (n m : ℕ) → n < m → T (ltb 0 n) → T (ltb (n - 1 + 1) m)
+within-again n m l t = lt→ltb (n - 1 + 1) m (omega (arith, ltb→lt 0 n t))
+
+moved-earlier : (p : Place) (d : ℕ) → T (hasPrevious p d) → moved (earlier p d) d ≡ p
+unfolding moved earlier hasPrevious
+moved-earlier p zero t = λ k. record { column = on-again (p .column) t k; row = p .row; layer = p .layer }
+moved-earlier p (suc zero) t = λ k. record { column = p .column; row = on-again (p .row) t k; layer = p .layer }
+moved-earlier p (suc (suc d)) t = λ k. record { column = p .column; row = p .row; layer = on-again (p .layer) t k }
+
+module _ (g : Grid) (p : Place) (inside : Inside g p) where
+  earlier-inside : (d : ℕ) → Inside g (earlier p d)
+  unfolding earlier
+  earlier-inside zero = record { column = omega (arith, inside .column); row = inside .row; layer = inside .layer }
+  earlier-inside (suc zero) = record { column = inside .column; row = omega (arith, inside .row); layer = inside .layer }
+  earlier-inside (suc (suc d)) = record { column = inside .column; row = inside .row; layer = omega (arith, inside .layer) }
+
+  earlier-next : (d : ℕ) → T (hasPrevious p d) → T (hasNext g (earlier p d) d)
+  unfolding earlier hasPrevious hasNext
+  earlier-next zero t = within-again (p .column) (g .columns) (inside .column) t
+  earlier-next (suc zero) t = within-again (p .row) (g .rows) (inside .row) t
+  earlier-next (suc (suc d)) t = within-again (p .layer) (g .layers) (inside .layer) t
+
+-- ---- a link's two ends
+
+module _ (g : Grid) (counted : Counted g) (d i : ℕ) (l : i < blocksOf g) where
+  next-inside-place : T (nextOf g d i) → Inside g (moved (placeOf g i) d)
+  unfolding nextOf
+  next-inside-place t = moved-inside g (placeOf g i) d (place-inside g counted i l) t
+
+  next-block : blockAt g (moved (placeOf g i) d) ≡ i + strideOf g d
+  next-block = moved-block g (placeOf g i) d ∙ ap (λ (k : ℕ). k + strideOf g d) (block-place g counted i)
+
+  -- both ends are inside the grid
+  pub next-inside : T (nextOf g d i) → i + strideOf g d < blocksOf g
+  next-inside t = rw (← next-block) (block-inside g counted (moved (placeOf g i) d) (next-inside-place t))
+
+  next-place : T (nextOf g d i) → placeOf g (i + strideOf g d) ≡ moved (placeOf g i) d
+  next-place t = rw (← next-block) (place-block g counted (moved (placeOf g i) d) (next-inside-place t))
+
+moved-has : (p : Place) (d : ℕ) → T (hasPrevious (moved p d) d)
+unfolding moved hasPrevious
+moved-has p zero = lt→ltb 0 (p .column + 1) (omega arith)
+moved-has p (suc zero) = lt→ltb 0 (p .row + 1) (omega arith)
+moved-has p (suc (suc d)) = lt→ltb 0 (p .layer + 1) (omega arith)
+
+-- a link ends in block i where one leads on from i - stride
+module _ (g : Grid) (counted : Counted g) (d i : ℕ) (l : i < blocksOf g) where
+  previous-block : T (previousOf g d i) → blockAt g (earlier (placeOf g i) d) + strideOf g d ≡ i
+  unfolding previousOf
+  previous-block t = sym (moved-block g (earlier (placeOf g i) d) d) ∙ ap (blockAt g) (moved-earlier (placeOf g i) d t) ∙ block-place g counted i
+
+  pub previous-low : T (previousOf g d i) → strideOf g d ≤ i
+  previous-low t = omega (arith, previous-block t)
+
+  low-block : T (previousOf g d i) → i - strideOf g d ≡ blockAt g (earlier (placeOf g i) d)
+  low-block t = omega (arith, previous-block t)
+
+  pub previous-next : T (previousOf g d i) → T (nextOf g d (i - strideOf g d))
+  unfolding previousOf nextOf
+  previous-next t =
+      let inside = earlier-inside g (placeOf g i) (place-inside g counted i l) d in
+      rw (low-block t, place-block g counted (earlier (placeOf g i) d) inside) (earlier-next g (placeOf g i) (place-inside g counted i l) d t)
+
+  pub next-previous : strideOf g d ≤ i → T (nextOf g d (i - strideOf g d)) → T (previousOf g d i)
+  unfolding previousOf
+  next-previous h t =
+      let e : i - strideOf g d + strideOf g d ≡ i = omega arith in
+      subst (λ (k : ℕ). T (hasPrevious (placeOf g k) d)) e (rw (next-place g counted d (i - strideOf g d) (omega arith) t) (moved-has (placeOf g (i - strideOf g d)) d))
+
+-- ---- a block's neighbours
+
+moved-further : (p : Place) (d : ℕ) → coordinateOf (moved p d) d ≡ coordinateOf p d + 1
+unfolding moved
+moved-further p zero = refl
+moved-further p (suc zero) = refl
+moved-further p (suc (suc d)) = refl
+
+moved-alike : (p : Place) (d e : ℕ) → d < 3 → e < 3 → (e ≡ d → ⊥) → coordinateOf (moved p d) e ≡ coordinateOf p e
+unfolding moved
+moved-alike p zero zero k l n = absurd (n refl)
+moved-alike p zero (suc zero) k l n = refl
+moved-alike p zero (suc (suc e)) k l n = refl
+moved-alike p (suc zero) zero k l n = refl
+moved-alike p (suc zero) (suc zero) k l n = absurd (n refl)
+moved-alike p (suc zero) (suc (suc e)) k l n = refl
+moved-alike p (suc (suc d)) zero k l n = refl
+moved-alike p (suc (suc d)) (suc zero) k l n = refl
+moved-alike p (suc (suc d)) (suc (suc e)) k l n = absurd (n (omega arith))
+
+-- a place is its three coordinates
+place-same : (p q : Place) → ((e : ℕ) → e < 3 → coordinateOf p e ≡ coordinateOf q e) → p ≡ q
+place-same p q h = λ k. record { column = h 0 (omega arith) k; row = h 1 (omega arith) k; layer = h 2 (omega arith) k }
+
+module _ (g : Grid) (counted : Counted g) (d i j : ℕ) (axis : d < 3) (l : i < blocksOf g) (m : j < blocksOf g) where
+  -- a link joins two blocks that touch
+  pub link-beside : T (nextOf g d i) → j ≡ i + strideOf g d → Beside g d i j
+  link-beside t e =
+      let moves : placeOf g j ≡ moved (placeOf g i) d = ap (placeOf g) e ∙ next-place g counted d i l t in
+      record {
+        further = ap (λ p. coordinateOf p d) moves ∙ moved-further (placeOf g i) d;
+        alike = λ e k n. ap (λ p. coordinateOf p e) moves ∙ moved-alike (placeOf g i) d e axis k n;
+      }
+
+  moves-on : Beside g d i j → placeOf g j ≡ moved (placeOf g i) d
+  moves-on b = place-same (placeOf g j) (moved (placeOf g i) d) (λ e k. go e k (ℕ-discrete e d))
+    where
+      go : (e : ℕ) → e < 3 → Dec (e ≡ d) → coordinateOf (placeOf g j) e ≡ coordinateOf (moved (placeOf g i) d) e
+      go e k (yes p) = rw p (b .further ∙ sym (moved-further (placeOf g i) d))
+      go e k (no n) = b .alike e k n ∙ sym (moved-alike (placeOf g i) d e axis k n)
+
+  -- and two that touch are joined by a link
+  pub beside-link : Beside g d i j → T (nextOf g d i) × (j ≡ i + strideOf g d)
+  unfolding nextOf hasNext
+  beside-link b = (
+    lt→ltb (coordinateOf (placeOf g i) d + 1) (extentOf g d) (rw (← b .further) (reached (placeOf g j) d (place-inside g counted j m))),
+    sym (block-place g counted j) ∙ ap (blockAt g) (moves-on b) ∙ next-block g counted d i l,
+  )
+    where
+      reached : (p : Place) (d : ℕ) → Inside g p → coordinateOf p d < extentOf g d
+      reached p zero h = h .column
+      reached p (suc zero) h = h .row
+      reached p (suc (suc d)) h = h .layer
+
+-- The only neighbours of a block are those across its own three links and across the three that end in it.
+pub neighbours : (g : Grid) → Counted g → (d i j : ℕ) → d < 3 → i < blocksOf g → j < blocksOf g → Beside g d i j ⊎ Beside g d j i
+    → (T (nextOf g d i) × (j ≡ i + strideOf g d)) ⊎ (T (previousOf g d i) × (j ≡ i - strideOf g d))
+neighbours g counted d i j axis l m (inl b) = inl (beside-link g counted d i j axis l m b)
+neighbours g counted d i j axis l m (inr b) =
+    let h = beside-link g counted d j i axis m l b in
+    let e : j ≡ i - strideOf g d = omega (arith, h .1) in
+    inr (next-previous g counted d i l (omega (arith, h .1)) (rw (← e) (h .0)), e)
+
+-- ---- from blocks to links: what blocks get by the links that lead on from them and by those that end in them, summed over the blocks, is what links bring, summed over the links
+previous-is : (g : Grid) → Counted g → (d i : ℕ) → i < blocksOf g → (y : ℕ → ℤ)
+    → only (previousOf g d i) (y (i - strideOf g d)) ≡ back (strideOf g d) (λ k. only (nextOf g d k) (y k)) i
+unfolding back
+previous-is g counted d i l y =
+    ap (λ (b : Bool). only b (y (i - strideOf g d)))
+    (same-test (previousOf g d i) (leb (strideOf g d) i && nextOf g d (i - strideOf g d))
+    (λ t. joint (leb (strideOf g d) i) (nextOf g d (i - strideOf g d)) (le→leb (strideOf g d) i (previous-low g counted d i l t)) (previous-next g counted d i l t))
+    (λ t. let h = both (leb (strideOf g d) i) (nextOf g d (i - strideOf g d)) t in next-previous g counted d i l (leb→le (strideOf g d) i (h .0)) (h .1)))
+    ∙ sym (only-and (leb (strideOf g d) i) (nextOf g d (i - strideOf g d)) (y (i - strideOf g d)))
+
+pub shift : (g : Grid) → Counted g → (d : ℕ) (x y : ℕ → ℤ)
+    → sum (blocksOf g) (λ i. only (nextOf g d i) (x i) +ℤ only (previousOf g d i) (y (i - strideOf g d))) ≡ sum (blocksOf g) (λ i. only (nextOf g d i) (x i +ℤ y i))
+shift g counted d x y =
+    sum-same n (λ i. own i +ℤ only (previousOf g d i) (y (i - strideOf g d))) (λ i. own i +ℤ back (strideOf g d) ends i) (λ i l. ap (λ z. own i +ℤ z) (previous-is g counted d i l y))
+    ∙ sum-add n own (back (strideOf g d) ends)
+    ∙ ap (λ z. sum n own +ℤ z) (sum-move n (strideOf g d) ends (λ i l h. only-off (nextOf g d i) (y i) (λ t. h (next-inside g counted d i l t))))
+    ∙ sym (sum-add n own ends)
+    ∙ sum-same n (λ i. own i +ℤ ends i) (λ i. only (nextOf g d i) (x i +ℤ y i)) (λ i l. sym (only-add (nextOf g d i) (x i) (y i)))
+  where
+    n : ℕ
+    n = blocksOf g
+
+    own : ℕ → ℤ
+    own i = only (nextOf g d i) (x i)
+
+    ends : ℕ → ℤ
+    ends i = only (nextOf g d i) (y i)

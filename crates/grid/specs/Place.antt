@@ -1,0 +1,91 @@
+-- Where a block lies, and its links (document 01, "Units and ranges"). A block is its number less 1.
+use mathlib.Core.Path.{_≡_}
+use mathlib.Core.Bool.{Bool, true, false}
+use Prim.Native.Nat.{ℕ, zero, suc, _+_, _*_, _-_, _/_, _%_, _≤_, _<_}
+use lib.Dec.{ltb, eqb}
+use Rattle.grid.specs.declared.Grid.{Grid}
+use Rattle.grid.specs.declared.place.Place.{Place}
+use Rattle.grid.specs.declared.place.Neighbour.{Neighbour}
+use Rattle.grid.specs.declared.place.Neighbour.the-variants.{At, Outside}
+use Rattle.grid.specs.Units.{mostAcross, mostLayers, mostBlocks}
+
+-- the block total
+abbrev pub blocksOf : Grid → ℕ
+blocksOf g = g .columns * g .rows * g .layers
+
+-- "columns, rows; layers | 1..=64 each; 1..=8; blocks at most 512"
+pub record Counted (g : Grid) : Type 0 where
+  pub columns-some : 1 ≤ g .columns
+  pub columns-most : g .columns ≤ mostAcross
+  pub rows-some : 1 ≤ g .rows
+  pub rows-most : g .rows ≤ mostAcross
+  pub layers-some : 1 ≤ g .layers
+  pub layers-most : g .layers ≤ mostLayers
+  pub blocks-most : blocksOf g ≤ mostBlocks
+
+-- "Layer 1 is the deepest. Blocks are numbered from 1, by layer, then row, then column."
+unfoldable pub placeOf : Grid → ℕ → Place
+placeOf g i = record { column = i % g .columns; row = i / g .columns % g .rows; layer = i / g .columns / g .rows }
+
+unfoldable pub blockAt : Grid → Place → ℕ
+blockAt g p = (p .layer * g .rows + p .row) * g .columns + p .column
+
+pub record Inside (g : Grid) (p : Place) : Type 0 where
+  pub column : p .column < g .columns
+  pub row : p .row < g .rows
+  pub layer : p .layer < g .layers
+
+-- "Top layer" is the layer with number `layers`.
+unfoldable pub topOf : Grid → ℕ → Bool
+topOf g i = eqb (placeOf g i .layer + 1) (g .layers)
+
+-- ---- the three axes: 0 to the next column, 1 to the next row, 2 to the block above
+
+abbrev pub coordinateOf : Place → ℕ → ℕ
+coordinateOf p zero = p .column
+coordinateOf p (suc zero) = p .row
+coordinateOf p (suc (suc d)) = p .layer
+
+abbrev pub extentOf : Grid → ℕ → ℕ
+extentOf g zero = g .columns
+extentOf g (suc zero) = g .rows
+extentOf g (suc (suc d)) = g .layers
+
+-- from a block to the next one along the axis
+abbrev pub strideOf : Grid → ℕ → ℕ
+strideOf g zero = 1
+strideOf g (suc zero) = g .columns
+strideOf g (suc (suc d)) = g .columns * g .rows
+
+unfoldable pub hasNext : Grid → Place → ℕ → Bool
+hasNext g p d = ltb (coordinateOf p d + 1) (extentOf g d)
+
+unfoldable pub hasPrevious : Place → ℕ → Bool
+hasPrevious p d = ltb 0 (coordinateOf p d)
+
+-- the link (d, i) joins block i, its low end, to block i + stride, its high end, where that block is there
+unfoldable pub nextOf : Grid → ℕ → ℕ → Bool
+nextOf g d i = hasNext g (placeOf g i) d
+
+-- a link ends in block i: that of i - stride
+unfoldable pub previousOf : Grid → ℕ → ℕ → Bool
+previousOf g d i = hasPrevious (placeOf g i) d
+
+abbrev pub there : Bool → ℕ → Neighbour
+there true i = At i
+there false i = Outside
+
+-- the block across the link that leads on from block i, or across the link that ends in it
+unfoldable pub neighbourOf : Grid → ℕ → ℕ → Bool → Neighbour
+neighbourOf g d i true = there (nextOf g d i) (i + strideOf g d)
+neighbourOf g d i false = there (previousOf g d i) (i - strideOf g d)
+
+-- "let p be the block on a's other side", for the low or the high end a of the link (d, i)
+unfoldable pub behindOf : Grid → ℕ → ℕ → Bool → Neighbour
+behindOf g d i true = neighbourOf g d i false
+behindOf g d i false = neighbourOf g d (i + strideOf g d) true
+
+-- two blocks that touch, the second one further along the axis: "Neighbours in a row or column of one layer", "the one directly above"
+pub record Beside (g : Grid) (d i j : ℕ) : Type 0 where
+  pub further : coordinateOf (placeOf g j) d ≡ coordinateOf (placeOf g i) d + 1
+  pub alike : (e : ℕ) → e < 3 → (e ≡ d → ⊥) → coordinateOf (placeOf g j) e ≡ coordinateOf (placeOf g i) e

@@ -1,0 +1,28 @@
+-- Units and ranges (document 01): the limits of a case's record and widths, each by name. src/units.rt has the same names and numbers.
+use Prim.Native.Nat.{ℕ}
+
+-- "columns, rows; layers | 1..=64 each; 1..=8; blocks at most 512"
+abbrev pub mostAcross : ℕ
+mostAcross = 64
+
+abbrev pub mostLayers : ℕ
+mostLayers = 8
+
+abbrev pub mostBlocks : ℕ
+mostBlocks = 512
+
+-- "δ, whole | 1..=100"
+abbrev pub mostDelta : ℕ
+mostDelta = 100
+
+-- "time step, days | 1..=36,525"
+abbrev pub mostStep : ℕ
+mostStep = 36525
+
+-- "tolerance, litres/day | 0..=1,000,000,000"
+abbrev pub mostTolerance : ℕ
+mostTolerance = 1000000000
+
+-- "column and row widths, m | 1..=4,096"
+abbrev pub mostWidth : ℕ
+mostWidth = 4096

@@ -1,0 +1,19 @@
+// The grid of a case: its record, its blocks and links, a block's sixteen slots, and what slices are refused with before any
+// physics, 3, 7, 4, 5 and 6 (document 01, "Units and ranges" and "Refusal numbers").
+pub mod place;
+pub mod units;
+
+// The record of a case. It may hold any numbers: `judging` says which are refused.
+pub struct Grid {
+    pub columns: usize,
+    pub rows: usize,
+    pub layers: usize,
+    // δ, whole.
+    pub delta: i64,
+    // 1 where the top layer has a water table, otherwise 0.
+    pub flag: u64,
+    // The time step in days.
+    pub step: i64,
+    // Litres a day.
+    pub tolerance: i64,
+}

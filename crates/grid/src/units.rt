@@ -1,0 +1,16 @@
+// The limits of a case's record and widths (document 01, "Units and ranges"), each by name. specs/Units.antt has the same names and numbers.
+
+// Columns and rows, each.
+pub const MOST_ACROSS: usize = 64;
+
+pub const MOST_LAYERS: usize = 8;
+
+pub const MOST_BLOCKS: usize = 512;
+
+pub const MOST_DELTA: i64 = 100;
+// Days.
+pub const MOST_STEP: i64 = 36_525;
+// Litres a day.
+pub const MOST_TOLERANCE: i64 = 1_000_000_000;
+// Metres.
+pub const MOST_WIDTH: i64 = 4_096;

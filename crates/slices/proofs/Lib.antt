@@ -1,0 +1,3 @@
+-- Laws of judging and worked numbers. They hold nothing to believe.
+pub mod SlicesLaws
+pub mod WorkedTheorems

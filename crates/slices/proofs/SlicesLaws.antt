@@ -1,0 +1,169 @@
+-- Laws of judging: the order of refusals, and what a case that is not refused gives. Assumes nothing.
+use mathlib.Core.Path.{_≡_, refl}
+use mathlib.Core.Bool.{Bool, true, false, not, cond, _&&_}
+use mathlib.Core.List.{List, [], _∷_, _++_}
+use Prim.Native.Nat.{ℕ, zero, suc, _*_, _≤_, _<_}
+use native.Mathlib.Decide.{ℕ-discrete}
+use native.Mathlib.Omega.{arith}
+use borrow.Author.Tests.{eq-eqb, ne-eqb, not-false}
+use lib.Dec.{T, leb, leb→le, eqb}
+use lib.IntN.{ℤ, pos}
+use lib.ListN.{length, getD}
+use Rattle.whole.specs.Whole.{In}
+use Rattle.whole.proofs.SearchLaws.{holds, both, every-all, first-none}
+use Rattle.grid.specs.declared.Grid.{Grid}
+use Rattle.slices.specs.declared.Refusal.{Refusal}
+use Rattle.grid.specs.Units.{mostAcross, mostLayers, mostBlocks, mostDelta, mostStep, mostTolerance, mostWidth}
+use Rattle.slots.specs.Units.{slotsEach}
+use Rattle.grid.specs.Place.{blocksOf, topOf, Counted}
+use Rattle.slots.specs.Ranges.{between, inRange}
+use Rattle.slots.specs.Slots.{partOf}
+use Rattle.slots.specs.Rules.{slotsHold}
+use Rattle.slices.specs.Slices.{Case, unless, blaming, orElse, firstRefusal, countWithin, countsHold, roomHolds, termsHold, widthsHold, faultOf, shapeOf, contentsOf, judgedOf, Roomy, Termed, Judged}
+use Rattle.slots.proofs.SlotsLaws.{range-in, slots-active, slots-inactive}
+
+-- ---- the order of refusals
+
+pub or-first : (x y : Refusal) → (x .number ≡ 0 → ⊥) → orElse x y ≡ x
+unfolding orElse
+or-first x y h = rw (ne-eqb (x .number) 0 h)
+
+pub or-next : (x y : Refusal) → x .number ≡ 0 → orElse x y ≡ y
+unfolding orElse
+or-next x y h = rw (eq-eqb (x .number) 0 h)
+
+-- the first of two runs of refusals
+pub first-append : (xs ys : List Refusal) → firstRefusal (xs ++ ys) ≡ orElse (firstRefusal xs) (firstRefusal ys)
+unfolding firstRefusal orElse
+first-append [] ys = refl
+first-append (x ∷ xs) ys = rw (first-append xs ys) (regroup x (firstRefusal xs) (firstRefusal ys))
+  where
+    regroup : (x y z : Refusal) → orElse x (orElse y z) ≡ orElse (orElse x y) z
+    regroup x y z = go (eqb (x .number) 0) refl
+      where
+        go : (b : Bool) → eqb (x .number) 0 ≡ b → cond b (orElse y z) x ≡ cond (eqb (cond b y x .number) 0) z (cond b y x)
+        go true e = refl
+        go false e = rw e
+
+-- neither run refuses
+pub or-none : (x y : Refusal) → orElse x y .number ≡ 0 → (x .number ≡ 0) × (y .number ≡ 0)
+unfolding orElse
+or-none x y e = go (ℕ-discrete (x .number) 0)
+  where
+    go : Dec (x .number ≡ 0) → (x .number ≡ 0) × (y .number ≡ 0)
+    go (yes h) = (h, rw (eq-eqb (x .number) 0 h) at e)
+    go (no h) = absurd (h (rw (ne-eqb (x .number) 0 h) at e))
+
+-- a refusal among those judged, wherever in their order
+pub data Among (x : Refusal) : List Refusal → Type 0 where
+  here : {xs : List Refusal} → Among x (x ∷ xs)
+  later : {y : Refusal} {xs : List Refusal} → Among x xs → Among x (y ∷ xs)
+
+pub none-among : {x : Refusal} {xs : List Refusal} → Among x xs → firstRefusal xs .number ≡ 0 → x .number ≡ 0
+unfolding firstRefusal
+none-among {x} (here {xs = xs}) e = or-none x (firstRefusal xs) e .0
+none-among (later {y = y} {xs = xs} m) e = none-among m (or-none y (firstRefusal xs) e .1)
+
+-- a test among those judged holds, and a block among those blamed is none
+pub holds-among : (n : ℕ) (b : Bool) {xs : List Refusal} → (n ≡ 0 → ⊥) → Among (unless n b) xs → firstRefusal xs .number ≡ 0 → T b
+holds-among n true h m e = tt
+holds-among n false h m e = h (none-among m e)
+
+pub blames-none : (n b : ℕ) {xs : List Refusal} → (n ≡ 0 → ⊥) → Among (blaming n b) xs → firstRefusal xs .number ≡ 0 → b ≡ 0
+blames-none n zero h m e = refl
+blames-none n (suc b) h m e = absurd (h (none-among m e))
+
+-- ---- what holds of a case that is not refused
+
+pub within-count : (n most : ℕ) → T (countWithin n most) → (1 ≤ n) × (n ≤ most)
+within-count n most t = let h = both (leb 1 n) (leb n most) t in (leb→le 1 n (h .0), leb→le n most (h .1))
+
+pub counts-counted : (g : Grid) → T (countsHold g) → Counted g
+unfolding countsHold
+counts-counted g t =
+    let a = both (countWithin (g .columns) mostAcross) (countWithin (g .rows) mostAcross && (countWithin (g .layers) mostLayers && leb (blocksOf g) mostBlocks)) t in
+    let b = both (countWithin (g .rows) mostAcross) (countWithin (g .layers) mostLayers && leb (blocksOf g) mostBlocks) (a .1) in
+    let d = both (countWithin (g .layers) mostLayers) (leb (blocksOf g) mostBlocks) (b .1) in
+    let columns = within-count (g .columns) mostAcross (a .0) in
+    let rows = within-count (g .rows) mostAcross (b .0) in
+    let layers = within-count (g .layers) mostLayers (d .0) in
+    record {
+      columns-some = columns .0;
+      columns-most = columns .1;
+      rows-some = rows .0;
+      rows-most = rows .1;
+      layers-some = layers .0;
+      layers-most = layers .1;
+      blocks-most = leb→le (blocksOf g) mostBlocks (d .1);
+    }
+
+pub room-roomy : (c : Case) → T (roomHolds c) → Roomy c
+unfolding roomHolds
+room-roomy c t =
+    let a = both (leb (c .grid .columns) (length (c .columns))) (leb (c .grid .rows) (length (c .rows)) && leb (slotsEach * blocksOf (c .grid)) (length (c .slots))) t in
+    let b = both (leb (c .grid .rows) (length (c .rows))) (leb (slotsEach * blocksOf (c .grid)) (length (c .slots))) (a .1) in
+    record { columns = leb→le _ _ (a .0); rows = leb→le _ _ (b .0); slots = leb→le _ _ (b .1) }
+
+pub terms-termed : (g : Grid) → T (termsHold g) → Termed g
+unfolding termsHold
+terms-termed g t =
+    let delta = inRange (between (pos 1) (pos mostDelta)) (g .delta) in
+    let step = inRange (between (pos 1) (pos mostStep)) (g .step) in
+    let tolerance = inRange (between (pos 0) (pos mostTolerance)) (g .tolerance) in
+    let a = both delta (leb (g .flag) 1 && (step && tolerance)) t in
+    let b = both (leb (g .flag) 1) (step && tolerance) (a .1) in
+    let d = both step tolerance (b .1) in
+    record {
+      delta = range-in (between (pos 1) (pos mostDelta)) (g .delta) (a .0);
+      flag = leb→le (g .flag) 1 (b .0);
+      step = range-in (between (pos 1) (pos mostStep)) (g .step) (d .0);
+      tolerance = range-in (between (pos 0) (pos mostTolerance)) (g .tolerance) (d .1);
+    }
+
+pub width-at : (widths : List ℤ) (n : ℕ) → T (widthsHold widths n) → (k : ℕ) → k < n → In (pos 1) (pos mostWidth) (getD widths k (pos 0))
+unfolding widthsHold
+width-at widths n t k l = range-in (between (pos 1) (pos mostWidth)) (getD widths k (pos 0)) (every-all (λ k. inRange (between (pos 1) (pos mostWidth)) (getD widths k (pos 0))) n t k l)
+
+faultless : (g : Grid) (slots : List ℤ) → faultOf g slots ≡ 0 → (i : ℕ) → i < blocksOf g → T (slotsHold (partOf slots i) (topOf g i))
+unfolding faultOf
+faultless g slots e i l =
+    holds (not-false (slotsHold (partOf slots i) (topOf g i)) (first-none (λ k. not (slotsHold (partOf slots k) (topOf g k))) (blocksOf g) e i l))
+
+-- 3 and 7 did not refuse
+pub shape-stands : (c : Case) → firstRefusal (shapeOf c) .number ≡ 0 → Counted (c .grid) × Roomy c
+unfolding shapeOf
+shape-stands c e = (
+  counts-counted (c .grid) (holds-among 3 (countsHold (c .grid)) (omega arith) (search (here, later)) e),
+  room-roomy c (holds-among 7 (roomHolds c) (omega arith) (search (here, later)) e),
+)
+
+-- 4, 5 and 6 did not refuse
+module _ (c : Case) (e : firstRefusal (contentsOf c) .number ≡ 0) where
+  terms-stand : T (termsHold (c .grid))
+  unfolding contentsOf
+  terms-stand = holds-among 4 (termsHold (c .grid)) (omega arith) (search (here, later)) e
+
+  widths-stand : T (widthsHold (c .columns) (c .grid .columns) && widthsHold (c .rows) (c .grid .rows))
+  unfolding contentsOf
+  widths-stand = holds-among 5 (widthsHold (c .columns) (c .grid .columns) && widthsHold (c .rows) (c .grid .rows)) (omega arith) (search (here, later)) e
+
+  no-fault : faultOf (c .grid) (c .slots) ≡ 0
+  unfolding contentsOf
+  no-fault = blames-none 6 (faultOf (c .grid) (c .slots)) (omega arith) (search (here, later)) e
+
+-- The law that a case which is not refused has the ranges that later parts require.
+pub judged-stands : (c : Case) → judgedOf c .number ≡ 0 → Judged c
+judged-stands c e =
+    let h = or-none (firstRefusal (shapeOf c)) (firstRefusal (contentsOf c)) (rw (first-append (shapeOf c) (contentsOf c)) at e) in
+    let shape = shape-stands c (h .0) in
+    let widths = both (widthsHold (c .columns) (c .grid .columns)) (widthsHold (c .rows) (c .grid .rows)) (widths-stand c (h .1)) in
+    let stands = faultless (c .grid) (c .slots) (no-fault c (h .1)) in
+    record {
+      counted = shape .0;
+      roomy = shape .1;
+      termed = terms-termed (c .grid) (terms-stand c (h .1));
+      column = width-at (c .columns) (c .grid .columns) (widths .0);
+      row = width-at (c .rows) (c .grid .rows) (widths .1);
+      active = λ i l. slots-active (partOf (c .slots) i) (topOf (c .grid) i) (stands i l);
+      inactive = λ i l. slots-inactive (partOf (c .slots) i) (topOf (c .grid) i) (stands i l);
+    }

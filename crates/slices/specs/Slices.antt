@@ -1,0 +1,117 @@
+-- What slices are refused with before any physics (document 01, "Refusal numbers"): "Slices are judged 3, 7, 4, 5, 6".
+use mathlib.Core.Path.{_≡_}
+use mathlib.Core.Bool.{Bool, true, false, not, cond, _&&_}
+use mathlib.Core.List.{List, [], _∷_, _++_}
+use Prim.Native.Nat.{ℕ, zero, suc, _*_, _≤_, _<_}
+use lib.Dec.{T, leb, eqb}
+use lib.IntN.{ℤ, pos}
+use lib.ListN.{length, getD}
+use Rattle.whole.specs.Whole.{In}
+use Rattle.whole.specs.Search.{every, firstOf}
+use Rattle.grid.specs.declared.Grid.{Grid}
+use Rattle.slices.specs.declared.Refusal.{Refusal}
+use Rattle.grid.specs.Units.{mostAcross, mostLayers, mostBlocks, mostDelta, mostStep, mostTolerance, mostWidth}
+use Rattle.slots.specs.Units.{slotsEach}
+use Rattle.grid.specs.Place.{blocksOf, topOf, Counted}
+use Rattle.slots.specs.Ranges.{between, inRange}
+use Rattle.slots.specs.Slots.{partOf, blockOf, isActive}
+use Rattle.slots.specs.Rules.{slotsHold, Active}
+
+-- a case as slices hold it: the record, the widths of columns and rows in metres, and the slots, sixteen to a block
+pub record Case : Type 0 where
+  pub grid : Grid
+  pub columns : List ℤ
+  pub rows : List ℤ
+  pub slots : List ℤ
+
+abbrev pub caseOf : Grid → List ℤ → List ℤ → List ℤ → Case
+caseOf g columns rows slots = record { grid = g; columns = columns; rows = rows; slots = slots }
+
+-- ---- refusals
+
+abbrev pub none : Refusal
+none = record { number = 0; block = 0 }
+
+abbrev pub refusal : ℕ → ℕ → Refusal
+refusal n b = record { number = n; block = b }
+
+-- refused with a number unless the test holds; "Others name 0."
+abbrev pub unless : ℕ → Bool → Refusal
+unless n true = none
+unless n false = refusal n 0
+
+-- refused with a number where a block is at fault; 0 is no block
+abbrev pub blaming : ℕ → ℕ → Refusal
+blaming n zero = none
+blaming n (suc b) = refusal n (suc b)
+
+-- the first that is a refusal
+unfoldable pub orElse : Refusal → Refusal → Refusal
+orElse x y = cond (eqb (x .number) 0) y x
+
+unfoldable pub firstRefusal : List Refusal → Refusal
+firstRefusal [] = none
+firstRefusal (x ∷ xs) = orElse x (firstRefusal xs)
+
+-- ---- what is judged
+
+abbrev pub countWithin : ℕ → ℕ → Bool
+countWithin n most = leb 1 n && leb n most
+
+-- 3: "a count or the block total is out of range"
+unfoldable pub countsHold : Grid → Bool
+countsHold g = countWithin (g .columns) mostAcross && (countWithin (g .rows) mostAcross && (countWithin (g .layers) mostLayers && leb (blocksOf g) mostBlocks))
+
+-- 7: "a lent slice is too short"
+unfoldable pub roomHolds : Case → Bool
+roomHolds c = leb (c .grid .columns) (length (c .columns)) && (leb (c .grid .rows) (length (c .rows)) && leb (slotsEach * blocksOf (c .grid)) (length (c .slots)))
+
+-- 4: "δ, flag, step or tolerance is out of range"
+unfoldable pub termsHold : Grid → Bool
+termsHold g =
+    inRange (between (pos 1) (pos mostDelta)) (g .delta)
+    && (leb (g .flag) 1 && (inRange (between (pos 1) (pos mostStep)) (g .step) && inRange (between (pos 0) (pos mostTolerance)) (g .tolerance)))
+
+-- 5: "a width is out of range"
+unfoldable pub widthsHold : List ℤ → ℕ → Bool
+widthsHold widths n = every n (λ k. inRange (between (pos 1) (pos mostWidth)) (getD widths k (pos 0)))
+
+-- 6: "a slot is out of range"; "Refusals 6, 9, 10, 13 and 14 name the first block at fault"
+unfoldable pub faultOf : Grid → List ℤ → ℕ
+faultOf g slots = firstOf (blocksOf g) (λ i. not (slotsHold (partOf slots i) (topOf g i)))
+
+-- 3 and 7, which say that a case is there, and then 4, 5 and 6
+unfoldable pub shapeOf : Case → List Refusal
+shapeOf c = unless 3 (countsHold (c .grid)) ∷ unless 7 (roomHolds c) ∷ []
+
+unfoldable pub contentsOf : Case → List Refusal
+contentsOf c =
+    unless 4 (termsHold (c .grid))
+    ∷ unless 5 (widthsHold (c .columns) (c .grid .columns) && widthsHold (c .rows) (c .grid .rows))
+    ∷ blaming 6 (faultOf (c .grid) (c .slots))
+    ∷ []
+
+abbrev pub judgedOf : Case → Refusal
+judgedOf c = firstRefusal (shapeOf c ++ contentsOf c)
+
+-- ---- what later parts require of a case: what it is not refused for
+
+pub record Roomy (c : Case) : Type 0 where
+  pub columns : c .grid .columns ≤ length (c .columns)
+  pub rows : c .grid .rows ≤ length (c .rows)
+  pub slots : slotsEach * blocksOf (c .grid) ≤ length (c .slots)
+
+pub record Termed (g : Grid) : Type 0 where
+  pub delta : In (pos 1) (pos mostDelta) (g .delta)
+  pub flag : g .flag ≤ 1
+  pub step : In (pos 1) (pos mostStep) (g .step)
+  pub tolerance : In (pos 0) (pos mostTolerance) (g .tolerance)
+
+pub record Judged (c : Case) : Type 0 where
+  pub counted : Counted (c .grid)
+  pub roomy : Roomy c
+  pub termed : Termed (c .grid)
+  pub column : (k : ℕ) → k < c .grid .columns → In (pos 1) (pos mostWidth) (getD (c .columns) k (pos 0))
+  pub row : (k : ℕ) → k < c .grid .rows → In (pos 1) (pos mostWidth) (getD (c .rows) k (pos 0))
+  pub active : (i : ℕ) → i < blocksOf (c .grid) → T (isActive (blockOf (c .slots) i)) → Active (blockOf (c .slots) i) (topOf (c .grid) i)
+  pub inactive : (i : ℕ) → i < blocksOf (c .grid) → T (not (isActive (blockOf (c .slots) i))) → (slot : ℕ) → slot < slotsEach → getD (partOf (c .slots) i) slot (pos 0) ≡ pos 0

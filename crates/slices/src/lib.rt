@@ -1,0 +1,205 @@
+// A case as slices hold it, and what it is refused with before any physics: "Slices are judged 3, 7, 4, 5, 6", each number over
+// everything before the next begins (document 01, "Refusal numbers").
+ghost use mathlib.Core.Path.{_≡_};
+ghost use Prim.Native.Nat.{_*_, _≤_};
+ghost use lib.ListN.{length};
+ghost use Rattle.grid.specs.Place.{Counted, blocksOf};
+ghost use Rattle.slices.specs.Slices.{
+  caseOf,
+  countWithin,
+  countsHold,
+  roomHolds,
+  termsHold,
+  widthsHold,
+  faultOf,
+  shapeOf,
+  contentsOf,
+  judgedOf,
+  firstRefusal,
+  Roomy,
+};
+use grid::Grid;
+use grid::place::blocks;
+use grid::place::is_top;
+use grid::units::MOST_ACROSS;
+use grid::units::MOST_BLOCKS;
+use grid::units::MOST_DELTA;
+use grid::units::MOST_LAYERS;
+use grid::units::MOST_STEP;
+use grid::units::MOST_TOLERANCE;
+use grid::units::MOST_WIDTH;
+use slots::ranges::Range;
+use slots::ranges::in_range;
+use slots::rules::slots_hold;
+use slots::units::SLOTS;
+
+// A refusal by its number in document 01 and the block that it names, counted from 1; 0 where it names none. Number 0 is no refusal.
+pub struct Refusal {
+    pub number: u64,
+    pub block: usize,
+}
+
+const DELTAS: Range = Range {
+    lower: 1,
+    upper: MOST_DELTA,
+};
+
+const STEPS: Range = Range {
+    lower: 1,
+    upper: MOST_STEP,
+};
+
+const TOLERANCES: Range = Range {
+    lower: 0,
+    upper: MOST_TOLERANCE,
+};
+
+const WIDTHS: Range = Range {
+    lower: 1,
+    upper: MOST_WIDTH,
+};
+
+fn count_within(n: usize, most: usize) -> bool
+    ensures { λ r. ⌜ r ≡ countWithin n most ⌝ }
+{
+    1 <= n && n <= most
+}
+
+// 3: "a count or the block total is out of range". The total is worked out only of counts that are in range.
+pub fn counts_hold(g: Grid) -> bool
+    ensures { λ r. ⌜ r ≡ countsHold g ⌝ }
+{
+    if count_within(g.columns, MOST_ACROSS) {
+        if count_within(g.rows, MOST_ACROSS) {
+            if count_within(g.layers, MOST_LAYERS) {
+                return g.columns * g.rows * g.layers <= MOST_BLOCKS;
+            }
+        }
+    }
+    false
+}
+
+// 7: "a lent slice is too short". Inner: the counts are in range.
+pub fn room_holds(g: Grid, columns: &[i64], rows: &[i64], slots: &[i64]) -> bool
+    requires { ⌜ Counted g ⌝ }
+    ensures { λ r. ⌜ r ≡ roomHolds (caseOf g (now (columns .entry)) (now (rows .entry)) (now (slots .entry))) ⌝ }
+{
+    if g.columns <= columns.len() {
+        if g.rows <= rows.len() {
+            return SLOTS * blocks(g) <= slots.len();
+        }
+    }
+    false
+}
+
+// 4: "δ, flag, step or tolerance is out of range".
+pub fn terms_hold(g: Grid) -> bool
+    ensures { λ r. ⌜ r ≡ termsHold g ⌝ }
+{
+    if in_range(DELTAS, g.delta) {
+        if g.flag <= 1 {
+            if in_range(STEPS, g.step) {
+                return in_range(TOLERANCES, g.tolerance);
+            }
+        }
+    }
+    false
+}
+
+// 5: "a width is out of range", of the first `count` widths in metres. Inner: there are so many.
+pub fn widths_hold(widths: &[i64], count: usize) -> bool
+    requires { ⌜ count ≤ length (now widths) ⌝ }
+    ensures { λ r. ⌜ r ≡ widthsHold (now (widths .entry)) count ⌝ }
+{
+    for k in 0..count {
+        let width = widths[k];
+        if !in_range(WIDTHS, width) {
+            return false;
+        }
+    }
+    true
+}
+
+// 6: "a slot is out of range": the first block at fault, or 0. Inner: the counts are in range and the slots reach so far.
+pub fn first_fault(g: Grid, slots: &[i64]) -> usize
+    requires { ⌜ Counted g ⌝ }
+    requires { ⌜ 16 * blocksOf g ≤ length (now slots) ⌝ }
+    ensures { λ r. ⌜ r ≡ faultOf g (now (slots .entry)) ⌝ }
+{
+    let total = blocks(g);
+    for block in 0..total {
+        let at = SLOTS * block;
+        if !slots_hold(&slots[at..], is_top(g, block)) {
+            return block + 1;
+        }
+    }
+    0
+}
+
+// 3, then 7: whether the case is there.
+pub fn shape(g: Grid, columns: &[i64], rows: &[i64], slots: &[i64]) -> Refusal
+    ensures { λ r. ⌜ r ≡ firstRefusal (shapeOf (caseOf g (now (columns .entry)) (now (rows .entry)) (now (slots .entry)))) ⌝ }
+{
+    if !counts_hold(g) {
+        return Refusal {
+            number: 3,
+            block: 0,
+        };
+    }
+    if !room_holds(g, columns, rows, slots) {
+        return Refusal {
+            number: 7,
+            block: 0,
+        };
+    }
+    Refusal {
+        number: 0,
+        block: 0,
+    }
+}
+
+// 4, then 5, then 6. Inner: the case is there.
+pub fn contents(g: Grid, columns: &[i64], rows: &[i64], slots: &[i64]) -> Refusal
+    requires { ⌜ Counted g ⌝ }
+    requires { ⌜ Roomy (caseOf g (now columns) (now rows) (now slots)) ⌝ }
+    ensures { λ r. ⌜ r ≡ firstRefusal (contentsOf (caseOf g (now (columns .entry)) (now (rows .entry)) (now (slots .entry)))) ⌝ }
+{
+    if !terms_hold(g) {
+        return Refusal {
+            number: 4,
+            block: 0,
+        };
+    }
+    if !widths_hold(columns, g.columns) {
+        return Refusal {
+            number: 5,
+            block: 0,
+        };
+    }
+    if !widths_hold(rows, g.rows) {
+        return Refusal {
+            number: 5,
+            block: 0,
+        };
+    }
+    let block = first_fault(g, slots);
+    if 0 < block {
+        return Refusal { number: 6, block };
+    }
+    Refusal {
+        number: 0,
+        block: 0,
+    }
+}
+
+// The first of 3, 7, 4, 5 and 6 that a case in slices is refused with, and the block that it names. `columns` and `rows` are the
+// widths in metres. Any numbers, and slices of any length, are judged.
+pub fn judge(g: Grid, columns: &[i64], rows: &[i64], slots: &[i64]) -> Refusal
+    ensures { λ r. ⌜ r ≡ judgedOf (caseOf g (now (columns .entry)) (now (rows .entry)) (now (slots .entry))) ⌝ }
+{
+    let first = shape(g, columns, rows, slots);
+    if first.number != 0 {
+        return first;
+    }
+    contents(g, columns, rows, slots)
+}

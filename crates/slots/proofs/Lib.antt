@@ -1,0 +1,2 @@
+-- Laws of a block's slots. They hold nothing to believe.
+pub mod SlotsLaws

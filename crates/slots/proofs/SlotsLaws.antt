@@ -1,0 +1,101 @@
+-- Laws of a block's slots: the table's rule, and what slots that stand tell of each slot. Assumes nothing.
+use mathlib.Core.Path.{_≡_}
+use mathlib.Core.Bool.{Bool, true, false, not, cond, _&&_}
+use mathlib.Core.List.{List}
+use Prim.Native.Nat.{ℕ, _*_, _-_, _<_}
+use native.Mathlib.Omega.{arith}
+use lib.Dec.{T}
+use lib.IntN.{ℤ, pos, negℤ}
+use lib.ListN.{length, getD, take, drop, length-drop}
+use lib.Seq.{take-all}
+use lib.Signed.{_≤ℤ_, _<ℤ_, leZ, leZ-yes, ltZ-yes}
+use Rattle.whole.specs.Whole.{In, isZero}
+use Rattle.whole.specs.Search.{every}
+use Rattle.whole.proofs.LinearLaws.{from1, signed, #}
+use Rattle.whole.proofs.OrderLaws.{zero-is}
+use Rattle.whole.proofs.SearchLaws.{both, every-all}
+use Rattle.slots.specs.declared.ranges.Range.{Range}
+use Rattle.slots.specs.Units.{slotsEach, mostPumpage}
+use Rattle.slots.specs.Ranges.{rangeOf, inRange, endsHold}
+use Rattle.slots.specs.Slots.{slotsAt, partOf, isActive, Ends}
+use Rattle.slots.specs.Rules.{allZero, rulesHold, slotsHold, Active}
+
+pub range-in : (r : Range) (v : ℤ) → T (inRange r v) → In (r .lower) (r .upper) v
+unfolding inRange
+range-in r v t =
+    let h = both (leZ (r .lower) v) (leZ v (r .upper)) t in
+    record { low = leZ-yes (h .0); high = leZ-yes (h .1) }
+
+-- ---- the table's rule: its ends are the right way round, and none is further from 0 than the greatest pumpage
+
+pub record Ruled (r : Range) : Type 0 where
+  pub least : negℤ (pos mostPumpage) ≤ℤ r .lower
+  pub ordered : r .lower ≤ℤ r .upper
+  pub most : r .upper ≤ℤ pos mostPumpage
+
+ruled : Range → Bool
+ruled r = leZ (negℤ (pos mostPumpage)) (r .lower) && (leZ (r .lower) (r .upper) && leZ (r .upper) (pos mostPumpage))
+
+pub table-ruled : (slot : ℕ) → slot < slotsEach → Ruled (rangeOf slot)
+unfolding ruled every rangeOf
+table-ruled slot l =
+    let r = rangeOf slot in
+    let h = both (leZ (negℤ (pos mostPumpage)) (r .lower)) (leZ (r .lower) (r .upper) && leZ (r .upper) (pos mostPumpage)) (every-all (λ n. ruled (rangeOf n)) slotsEach tt slot l) in
+    let k = both (leZ (r .lower) (r .upper)) (leZ (r .upper) (pos mostPumpage)) (h .1) in
+    record { least = leZ-yes (h .0); ordered = leZ-yes (k .0); most = leZ-yes (k .1) }
+
+-- ---- the part of the slots that is lent from a block on
+
+pub part-all : (slots : List ℤ) (i : ℕ) → take (length slots - slotsEach * i) (drop (slotsEach * i) slots) ≡ partOf slots i
+part-all slots i = take-all (length slots - slotsEach * i) (drop (slotsEach * i) slots) (simp length-drop (omega arith))
+
+-- ---- what slots that stand tell
+
+module _ (s : List ℤ) (t : T (endsHold s)) where
+  pub end-at : (slot : ℕ) → slot < slotsEach → In (rangeOf slot .lower) (rangeOf slot .upper) (getD s slot (pos 0))
+  unfolding endsHold
+  end-at slot l = range-in (rangeOf slot) (getD s slot (pos 0)) (every-all (λ n. inRange (rangeOf n) (getD s n (pos 0))) slotsEach t slot l)
+
+  pub ends-of : Ends (slotsAt s)
+  unfolding slotsAt rangeOf
+  ends-of = record {
+    k = end-at 0 (omega arith);
+    base = end-at 1 (omega arith);
+    thickness = end-at 2 (omega arith);
+    porosity = end-at 3 (omega arith);
+    leakance = end-at 4 (omega arith);
+    recharge = end-at 5 (omega arith);
+    pumpage = end-at 6 (omega arith);
+    screen-bottom = end-at 7 (omega arith);
+    screen-top = end-at 8 (omega arith);
+    kind = end-at 9 (omega arith);
+    level = end-at 10 (omega arith);
+    boundary-leakance = end-at 11 (omega arith);
+    old-fresh = end-at 12 (omega arith);
+    old-salt = end-at 13 (omega arith);
+    new-fresh = end-at 14 (omega arith);
+    new-salt = end-at 15 (omega arith);
+  }
+
+cond-true : (c a b : Bool) → T (cond c a b) → T c → T a
+cond-true true a b t u = t
+cond-true false a b t u = absurd u
+
+cond-false : (c a b : Bool) → T (cond c a b) → T (not c) → T b
+cond-false true a b t u = absurd u
+cond-false false a b t u = t
+
+module _ (s : List ℤ) (top : Bool) (t : T (slotsHold s top)) where
+  pub slots-active : T (isActive (slotsAt s)) → Active (slotsAt s) top
+  unfolding slotsHold
+  slots-active a =
+      let h = both (endsHold s) (rulesHold (slotsAt s) top) (cond-true (isActive (slotsAt s)) (endsHold s && rulesHold (slotsAt s) top) (allZero s) t a) in
+      record { ends = ends-of s (h .0); k-some = some (slotsAt s .k) (ltZ-yes a); rules = h .1 }
+    where
+      some : (z : ℤ) → pos 0 <ℤ z → pos 1 ≤ℤ z
+      some z h = from1 h (search (signed, # z) depth 30) (omega arith)
+
+  pub slots-inactive : T (not (isActive (slotsAt s))) → (slot : ℕ) → slot < slotsEach → getD s slot (pos 0) ≡ pos 0
+  unfolding slotsHold allZero
+  slots-inactive a slot l =
+      zero-is (getD s slot (pos 0)) (every-all (λ n. isZero (getD s n (pos 0))) slotsEach (cond-false (isActive (slotsAt s)) (endsHold s && rulesHold (slotsAt s) top) (allZero s) t a) slot l)

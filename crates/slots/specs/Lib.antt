@@ -1,0 +1,4 @@
+pub mod Units
+pub mod Ranges
+pub mod Slots
+pub mod Rules

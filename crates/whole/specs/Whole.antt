@@ -1,0 +1,45 @@
+-- Whole numbers (document 01, "Units and ranges").
+use Prim.Native.Nat.{ℕ, _/_, _<_}
+use mathlib.Core.Bool.{Bool, false, cond}
+use lib.Dec.{eqb}
+use mathlib.Core.List.{List}
+use lib.IntN.{ℤ, pos, negsuc, negℤ, natAbs}
+use lib.ListN.{length, getD}
+use lib.Signed.{_≤ℤ_, leZ, quotZ}
+
+-- "Floor means toward minus infinity": z / d for a divisor d of 1 or more. Below zero -1 - a becomes -1 - a / d.
+abbrev pub floorOf : ℤ → ℤ → ℤ
+floorOf (pos a) d = pos (a / natAbs d)
+floorOf (negsuc a) d = negsuc (a / natAbs d)
+
+-- "cut means toward zero"
+abbrev pub cutOf : ℤ → ℤ → ℤ
+cutOf z d = quotZ z d
+
+abbrev pub isZero : ℤ → Bool
+isZero (pos a) = eqb a 0
+isZero (negsuc a) = false
+
+-- the lesser and the greater of two
+abbrev pub minℤ : ℤ → ℤ → ℤ
+minℤ a b = cond (leZ a b) a b
+
+abbrev pub maxℤ : ℤ → ℤ → ℤ
+maxℤ a b = cond (leZ a b) b a
+
+-- z held between low and high; low where the two are the wrong way round
+unfoldable pub clampOf : ℤ → ℤ → ℤ → ℤ
+clampOf low high z = maxℤ low (minℤ z high)
+
+-- lo ≤ z ≤ hi
+pub record In (lo hi z : ℤ) : Type 0 where
+  pub low : lo ≤ℤ z
+  pub high : z ≤ℤ hi
+
+-- at most m from 0
+abbrev pub Abs : ℕ → ℤ → Type 0
+Abs m z = In (negℤ (pos m)) (pos m) z
+
+-- every element lies between lo and hi
+abbrev pub AllIn : ℤ → ℤ → List ℤ → Type 0
+AllIn lo hi zs = (k : ℕ) → k < length zs → In lo hi (getD zs k (pos 0))

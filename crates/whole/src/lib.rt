@@ -1,0 +1,53 @@
+// Whole numbers: floor, cut, the lesser, the greater, a number that is held between two (document 01, "Units and ranges").
+ghost use mathlib.Core.Path.{_≡_};
+ghost use lib.IntN.{pos};
+ghost use lib.Signed.{_≤ℤ_};
+ghost use Rattle.whole.specs.Whole.{floorOf, cutOf, isZero, minℤ, maxℤ, clampOf};
+
+// "Floor means toward minus infinity." Inner: the divisor is 1 or more.
+pub fn floor_div(a: i64, d: i64) -> i64
+    requires { ⌜ pos 1 ≤ℤ d ⌝ }
+    ensures { λ r. ⌜ r ≡ floorOf a d ⌝ }
+{
+    if a < 0 {
+        // -1 - a fits whatever a is, where d - 1 - a would not.
+        -1 - (-1 - a) / d
+    } else {
+        a / d
+    }
+}
+
+// "cut means toward zero." Inner: the divisor is 1 or more.
+pub fn cut_div(a: i64, d: i64) -> i64
+    requires { ⌜ pos 1 ≤ℤ d ⌝ }
+    ensures { λ r. ⌜ r ≡ cutOf a d ⌝ }
+{
+    a / d
+}
+
+pub fn is_zero(a: i64) -> bool
+    ensures { λ r. ⌜ r ≡ isZero a ⌝ }
+{
+    if a < 0 { false } else { a < 1 }
+}
+
+// The lesser of the two.
+pub fn least(a: i64, b: i64) -> i64
+    ensures { λ r. ⌜ r ≡ minℤ a b ⌝ }
+{
+    if a <= b { a } else { b }
+}
+
+// The greater of the two.
+pub fn greatest(a: i64, b: i64) -> i64
+    ensures { λ r. ⌜ r ≡ maxℤ a b ⌝ }
+{
+    if a <= b { b } else { a }
+}
+
+// x, or the end that it passes.
+pub fn clamp(x: i64, low: i64, high: i64) -> i64
+    ensures { λ r. ⌜ r ≡ clampOf low high x ⌝ }
+{
+    greatest(low, least(x, high))
+}
