@@ -3,7 +3,7 @@
 -- Assumes nothing.
 use mathlib.Core.Path.{_≡_, refl, sym, ap, _∙_, subst}
 use mathlib.Core.Logic.{_⊎_, inl, inr}
-use mathlib.Core.Bool.{Bool, _&&_}
+use mathlib.Core.Bool.{Bool, true, false, _&&_}
 use Prim.Native.Nat.{ℕ, zero, suc, _+_, _*_, _-_, _/_, _%_, _≤_, _<_}
 use native.Mathlib.Nat.{div-add-mod', mod-lt, div-lt-iff-lt-mul}
 use native.Mathlib.Omega.{arith}
@@ -16,7 +16,8 @@ use Rattle.whole.proofs.SumLaws.{only-add, only-and, only-off, sum-same, sum-ad
 use Rattle.whole.proofs.SearchLaws.{both, joint, same-test}
 use Rattle.grid.specs.declared.Grid.{Grid}
 use Rattle.grid.specs.declared.place.Place.{Place}
-use Rattle.grid.specs.Place.{blocksOf, Counted, placeOf, blockAt, Inside, coordinateOf, extentOf, strideOf, hasNext, hasPrevious, nextOf, previousOf, Beside}
+use Rattle.grid.specs.declared.place.Neighbour.the-variants.{At}
+use Rattle.grid.specs.Place.{blocksOf, Counted, placeOf, blockAt, Inside, coordinateOf, extentOf, strideOf, hasNext, hasPrevious, nextOf, previousOf, there, neighbourOf, Beside}
 
 -- an axis that is neither 0 nor 1 leads above
 pub above-axis : (d : ℕ) → (d ≡ 0 → ⊥) → (d ≡ 1 → ⊥) → (e : ℕ) × (d ≡ suc (suc e))
@@ -153,6 +154,20 @@ module _ (g : Grid) (counted : Counted g) (d i : ℕ) (l : i < blocksOf g) where
   next-previous h t =
       let e : i - strideOf g d + strideOf g d ≡ i = omega arith in
       subst (λ (k : ℕ). T (hasPrevious (placeOf g k) d)) e (rw (next-place g counted d (i - strideOf g d) (omega arith) t) (moved-has (placeOf g (i - strideOf g d)) d))
+
+-- the block across a link, and so the block behind one, is inside
+pub across-inside : (g : Grid) → Counted g → (d i p : ℕ) (on : Bool) → i < blocksOf g → neighbourOf g d i on ≡ At p → p < blocksOf g
+unfolding neighbourOf
+across-inside g counted d i p true l e = go (nextOf g d i) (λ t. next-inside g counted d i l t) e
+  where
+    go : (b : Bool) → (T b → i + strideOf g d < blocksOf g) → there b (i + strideOf g d) ≡ At p → p < blocksOf g
+    go true h e = let same : i + strideOf g d ≡ p = cc in rw (← same) (h tt)
+    go false h e = let z : _≡_ {A = ℕ} 0 1 = cc in absurd (omega arith)
+across-inside g counted d i p false l e = go (previousOf g d i) e
+  where
+    go : (b : Bool) → there b (i - strideOf g d) ≡ At p → p < blocksOf g
+    go true e = let same : i - strideOf g d ≡ p = cc in omega arith
+    go false e = let z : _≡_ {A = ℕ} 0 1 = cc in absurd (omega arith)
 
 -- ---- a block's neighbours
 
