@@ -8,19 +8,19 @@ use native.Mathlib.Omega.{arith}
 use borrow.Author.Tests.{eq-eqb, ne-eqb, not-false}
 use lib.Dec.{T, leb, leb→le, eqb}
 use lib.IntN.{ℤ, pos}
-use lib.ListN.{length, getD}
-use Rattle.whole.specs.Whole.{In}
-use Rattle.whole.proofs.SearchLaws.{holds, both, every-all, first-none}
+use lib.ListN.{length}
+use Rattle.whole.proofs.SearchLaws.{holds, both, first-none}
 use Rattle.grid.specs.declared.Grid.{Grid}
 use Rattle.slices.specs.declared.Refusal.{Refusal}
 use Rattle.grid.specs.Units.{mostAcross, mostLayers, mostBlocks, mostDelta, mostStep, mostTolerance, mostWidth}
 use Rattle.slots.specs.Units.{slotsEach}
 use Rattle.grid.specs.Place.{blocksOf, topOf, Counted}
-use Rattle.slots.specs.Ranges.{between, inRange}
+use Rattle.slots.specs.declared.ranges.Range.{Range}
+use Rattle.slots.specs.Ranges.{between, inRange, allWithin}
 use Rattle.slots.specs.Slots.{partOf}
 use Rattle.slots.specs.Rules.{slotsHold}
 use Rattle.slices.specs.Slices.{Case, unless, blaming, orElse, firstRefusal, countWithin, countsHold, roomHolds, termsHold, widthsHold, faultOf, shapeOf, contentsOf, judgedOf, Roomy, Termed, Judged}
-use Rattle.slots.proofs.SlotsLaws.{range-in, slots-active, slots-inactive}
+use Rattle.slots.proofs.SlotsLaws.{range-in, within-at, slots-active, slots-inactive}
 
 -- ---- the order of refusals
 
@@ -120,10 +120,6 @@ terms-termed g t =
       tolerance = range-in (between (pos 0) (pos mostTolerance)) (g .tolerance) (d .1);
     }
 
-pub width-at : (widths : List ℤ) (n : ℕ) → T (widthsHold widths n) → (k : ℕ) → k < n → In (pos 1) (pos mostWidth) (getD widths k (pos 0))
-unfolding widthsHold
-width-at widths n t k l = range-in (between (pos 1) (pos mostWidth)) (getD widths k (pos 0)) (every-all (λ k. inRange (between (pos 1) (pos mostWidth)) (getD widths k (pos 0))) n t k l)
-
 faultless : (g : Grid) (slots : List ℤ) → faultOf g slots ≡ 0 → (i : ℕ) → i < blocksOf g → T (slotsHold (partOf slots i) (topOf g i))
 unfolding faultOf
 faultless g slots e i l =
@@ -138,14 +134,17 @@ shape-stands c e = (
 )
 
 -- 4, 5 and 6 did not refuse
+abbrev wide : Range
+wide = between (pos 1) (pos mostWidth)
+
 module _ (c : Case) (e : firstRefusal (contentsOf c) .number ≡ 0) where
   terms-stand : T (termsHold (c .grid))
   unfolding contentsOf
   terms-stand = holds-among 4 (termsHold (c .grid)) (omega arith) (search (here, later)) e
 
-  widths-stand : T (widthsHold (c .columns) (c .grid .columns) && widthsHold (c .rows) (c .grid .rows))
-  unfolding contentsOf
-  widths-stand = holds-among 5 (widthsHold (c .columns) (c .grid .columns) && widthsHold (c .rows) (c .grid .rows)) (omega arith) (search (here, later)) e
+  widths-stand : T (allWithin wide (c .columns) (c .grid .columns)) × T (allWithin wide (c .rows) (c .grid .rows))
+  unfolding contentsOf widthsHold
+  widths-stand = both (allWithin wide (c .columns) (c .grid .columns)) (allWithin wide (c .rows) (c .grid .rows)) (holds-among 5 (widthsHold (c .grid) (c .columns) (c .rows)) (omega arith) (search (here, later)) e)
 
   no-fault : faultOf (c .grid) (c .slots) ≡ 0
   unfolding contentsOf
@@ -156,14 +155,14 @@ pub judged-stands : (c : Case) → judgedOf c .number ≡ 0 → Judged c
 judged-stands c e =
     let h = or-none (firstRefusal (shapeOf c)) (firstRefusal (contentsOf c)) (rw (first-append (shapeOf c) (contentsOf c)) at e) in
     let shape = shape-stands c (h .0) in
-    let widths = both (widthsHold (c .columns) (c .grid .columns)) (widthsHold (c .rows) (c .grid .rows)) (widths-stand c (h .1)) in
+    let widths = widths-stand c (h .1) in
     let stands = faultless (c .grid) (c .slots) (no-fault c (h .1)) in
     record {
       counted = shape .0;
       roomy = shape .1;
       termed = terms-termed (c .grid) (terms-stand c (h .1));
-      column = width-at (c .columns) (c .grid .columns) (widths .0);
-      row = width-at (c .rows) (c .grid .rows) (widths .1);
+      column = within-at wide (c .columns) (c .grid .columns) (widths .0);
+      row = within-at wide (c .rows) (c .grid .rows) (widths .1);
       active = λ i l. slots-active (partOf (c .slots) i) (topOf (c .grid) i) (stands i l);
       inactive = λ i l. slots-inactive (partOf (c .slots) i) (topOf (c .grid) i) (stands i l);
     }

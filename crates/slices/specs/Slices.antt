@@ -7,13 +7,13 @@ use lib.Dec.{T, leb, eqb}
 use lib.IntN.{ℤ, pos}
 use lib.ListN.{length, getD}
 use Rattle.whole.specs.Whole.{In}
-use Rattle.whole.specs.Search.{every, firstOf}
+use Rattle.whole.specs.Search.{firstOf}
 use Rattle.grid.specs.declared.Grid.{Grid}
 use Rattle.slices.specs.declared.Refusal.{Refusal}
 use Rattle.grid.specs.Units.{mostAcross, mostLayers, mostBlocks, mostDelta, mostStep, mostTolerance, mostWidth}
 use Rattle.slots.specs.Units.{slotsEach}
 use Rattle.grid.specs.Place.{blocksOf, topOf, Counted}
-use Rattle.slots.specs.Ranges.{between, inRange}
+use Rattle.slots.specs.Ranges.{between, inRange, allWithin}
 use Rattle.slots.specs.Slots.{partOf, blockOf, isActive}
 use Rattle.slots.specs.Rules.{slotsHold, Active}
 
@@ -72,9 +72,9 @@ termsHold g =
     inRange (between (pos 1) (pos mostDelta)) (g .delta)
     && (leb (g .flag) 1 && (inRange (between (pos 1) (pos mostStep)) (g .step) && inRange (between (pos 0) (pos mostTolerance)) (g .tolerance)))
 
--- 5: "a width is out of range"
-unfoldable pub widthsHold : List ℤ → ℕ → Bool
-widthsHold widths n = every n (λ k. inRange (between (pos 1) (pos mostWidth)) (getD widths k (pos 0)))
+-- 5: "a width is out of range", of the columns or of the rows
+unfoldable pub widthsHold : Grid → List ℤ → List ℤ → Bool
+widthsHold g columns rows = allWithin (between (pos 1) (pos mostWidth)) columns (g .columns) && allWithin (between (pos 1) (pos mostWidth)) rows (g .rows)
 
 -- 6: "a slot is out of range"; "Refusals 6, 9, 10, 13 and 14 name the first block at fault"
 unfoldable pub faultOf : Grid → List ℤ → ℕ
@@ -87,7 +87,7 @@ shapeOf c = unless 3 (countsHold (c .grid)) ∷ unless 7 (roomHolds c) ∷ []
 unfoldable pub contentsOf : Case → List Refusal
 contentsOf c =
     unless 4 (termsHold (c .grid))
-    ∷ unless 5 (widthsHold (c .columns) (c .grid .columns) && widthsHold (c .rows) (c .grid .rows))
+    ∷ unless 5 (widthsHold (c .grid) (c .columns) (c .rows))
     ∷ blaming 6 (faultOf (c .grid) (c .slots))
     ∷ []
 

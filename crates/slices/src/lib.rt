@@ -29,6 +29,7 @@ use grid::units::MOST_STEP;
 use grid::units::MOST_TOLERANCE;
 use grid::units::MOST_WIDTH;
 use slots::ranges::Range;
+use slots::ranges::all_within;
 use slots::ranges::in_range;
 use slots::rules::slots_hold;
 use slots::units::SLOTS;
@@ -106,18 +107,16 @@ pub fn terms_hold(g: Grid) -> bool
     false
 }
 
-// 5: "a width is out of range", of the first `count` widths in metres. Inner: there are so many.
-pub fn widths_hold(widths: &[i64], count: usize) -> bool
-    requires { ⌜ count ≤ length (now widths) ⌝ }
-    ensures { λ r. ⌜ r ≡ widthsHold (now (widths .entry)) count ⌝ }
+// 5: "a width is out of range", of columns and rows in metres. Inner: the case is there.
+pub fn widths_hold(g: Grid, columns: &[i64], rows: &[i64]) -> bool
+    requires { ⌜ g .columns ≤ length (now columns) ⌝ }
+    requires { ⌜ g .rows ≤ length (now rows) ⌝ }
+    ensures { λ r. ⌜ r ≡ widthsHold g (now (columns .entry)) (now (rows .entry)) ⌝ }
 {
-    for k in 0..count {
-        let width = widths[k];
-        if !in_range(WIDTHS, width) {
-            return false;
-        }
+    if all_within(columns, g.columns, WIDTHS) {
+        return all_within(rows, g.rows, WIDTHS);
     }
-    true
+    false
 }
 
 // 6: "a slot is out of range": the first block at fault, or 0. Inner: the counts are in range and the slots reach so far.
@@ -170,13 +169,7 @@ pub fn contents(g: Grid, columns: &[i64], rows: &[i64], slots: &[i64]) -> Refusa
             block: 0,
         };
     }
-    if !widths_hold(columns, g.columns) {
-        return Refusal {
-            number: 5,
-            block: 0,
-        };
-    }
-    if !widths_hold(rows, g.rows) {
+    if !widths_hold(g, columns, rows) {
         return Refusal {
             number: 5,
             block: 0,

@@ -9,14 +9,14 @@ use lib.IntN.{ℤ, pos, negℤ}
 use lib.ListN.{length, getD, take, drop, length-drop}
 use lib.Seq.{take-all}
 use lib.Signed.{_≤ℤ_, _<ℤ_, leZ, leZ-yes, ltZ-yes}
-use Rattle.whole.specs.Whole.{In, isZero}
+use Rattle.whole.specs.Whole.{In}
 use Rattle.whole.specs.Search.{every}
 use Rattle.whole.proofs.LinearLaws.{from1, signed, #}
-use Rattle.whole.proofs.OrderLaws.{zero-is}
+use Rattle.whole.proofs.OrderLaws.{≤ℤ-antisymm}
 use Rattle.whole.proofs.SearchLaws.{both, every-all}
 use Rattle.slots.specs.declared.ranges.Range.{Range}
 use Rattle.slots.specs.Units.{slotsEach, mostPumpage}
-use Rattle.slots.specs.Ranges.{rangeOf, inRange, endsHold}
+use Rattle.slots.specs.Ranges.{between, rangeOf, inRange, endsHold, allWithin}
 use Rattle.slots.specs.Slots.{slotsAt, partOf, isActive, Ends}
 use Rattle.slots.specs.Rules.{allZero, rulesHold, slotsHold, Active}
 
@@ -25,6 +25,10 @@ unfolding inRange
 range-in r v t =
     let h = both (leZ (r .lower) v) (leZ v (r .upper)) t in
     record { low = leZ-yes (h .0); high = leZ-yes (h .1) }
+
+pub within-at : (r : Range) (values : List ℤ) (n : ℕ) → T (allWithin r values n) → (k : ℕ) → k < n → In (r .lower) (r .upper) (getD values k (pos 0))
+unfolding allWithin
+within-at r values n t k l = range-in r (getD values k (pos 0)) (every-all (λ k. inRange r (getD values k (pos 0))) n t k l)
 
 -- ---- the table's rule: its ends are the right way round, and none is further from 0 than the greatest pumpage
 
@@ -98,4 +102,5 @@ module _ (s : List ℤ) (top : Bool) (t : T (slotsHold s top)) where
   pub slots-inactive : T (not (isActive (slotsAt s))) → (slot : ℕ) → slot < slotsEach → getD s slot (pos 0) ≡ pos 0
   unfolding slotsHold allZero
   slots-inactive a slot l =
-      zero-is (getD s slot (pos 0)) (every-all (λ n. isZero (getD s n (pos 0))) slotsEach (cond-false (isActive (slotsAt s)) (endsHold s && rulesHold (slotsAt s) top) (allZero s) t a) slot l)
+      let zero = within-at (between (pos 0) (pos 0)) s slotsEach (cond-false (isActive (slotsAt s)) (endsHold s && rulesHold (slotsAt s) top) (allZero s) t a) slot l in
+      ≤ℤ-antisymm (zero .high) (zero .low)

@@ -45,3 +45,7 @@ inRange r v = leZ (r .lower) v && leZ v (r .upper)
 -- every slot of a block within its ends
 unfoldable pub endsHold : List ℤ → Bool
 endsHold s = every slotsEach (λ slot. inRange (rangeOf slot) (getD s slot (pos 0)))
+
+-- the first n of some numbers, all within one pair of ends
+unfoldable pub allWithin : Range → List ℤ → ℕ → Bool
+allWithin r values n = every n (λ k. inRange r (getD values k (pos 0)))

@@ -3,18 +3,16 @@ use mathlib.Core.Bool.{Bool, true, false, cond, _&&_, _||_}
 use mathlib.Core.List.{List}
 use lib.Dec.{T}
 use lib.IntN.{ℤ, pos, _+ℤ_}
-use lib.ListN.{getD}
 use lib.Signed.{_≤ℤ_, leZ, ltZ}
 use Rattle.whole.specs.Whole.{isZero}
-use Rattle.whole.specs.Search.{every}
 use Rattle.slots.specs.declared.Block.{Block}
 use Rattle.slots.specs.Units.{slotsEach}
-use Rattle.slots.specs.Ranges.{between, inRange, endsHold}
+use Rattle.slots.specs.Ranges.{between, inRange, endsHold, allWithin}
 use Rattle.slots.specs.Slots.{slotsAt, isActive, Ends}
 
 -- "An inactive block has all 16 zero."
 unfoldable pub allZero : List ℤ → Bool
-allZero s = every slotsEach (λ slot. isZero (getD s slot (pos 0)))
+allZero s = allWithin (between (pos 0) (pos 0)) s slotsEach
 
 -- "base ≤ bottom < top ≤ aquifer top"
 unfoldable pub screenWithin : ℤ → ℤ → ℤ → ℤ → Bool

@@ -2,7 +2,7 @@
 ghost use mathlib.Core.Path.{_≡_};
 ghost use Prim.Native.Nat.{_≤_};
 ghost use lib.ListN.{length};
-ghost use Rattle.slots.specs.Ranges.{rangeOf, inRange, endsHold};
+ghost use Rattle.slots.specs.Ranges.{rangeOf, inRange, endsHold, allWithin};
 use super::units::MOST_K;
 use super::units::MOST_KIND;
 use super::units::MOST_LEAKANCE;
@@ -130,6 +130,20 @@ pub fn ends_hold(part: &[i64]) -> bool
     for slot in 0..SLOTS {
         let value = part[slot];
         if !in_range(range_of(slot), value) {
+            return false;
+        }
+    }
+    true
+}
+
+// Whether the first `count` of some numbers all lie within one pair of ends. Inner: there are so many.
+pub fn all_within(values: &[i64], count: usize, range: Range) -> bool
+    requires { ⌜ count ≤ length (now values) ⌝ }
+    ensures { λ r. ⌜ r ≡ allWithin range (now (values .entry)) count ⌝ }
+{
+    for k in 0..count {
+        let value = values[k];
+        if !in_range(range, value) {
             return false;
         }
     }

@@ -17,10 +17,13 @@ ghost use Rattle.slots.specs.Rules.{
 ghost use Rattle.slots.specs.Slots.{Ends};
 use super::Block;
 use super::ranges::Range;
+use super::ranges::all_within;
 use super::ranges::ends_hold;
 use super::ranges::in_range;
 use super::slots_at;
 use super::units::SLOTS;
+
+const ZERO: Range = Range { lower: 0, upper: 0 };
 
 // The kinds that exchange water: 1 river, 2 sea.
 const OPEN_KINDS: Range = Range { lower: 1, upper: 2 };
@@ -30,13 +33,7 @@ pub fn all_zero(part: &[i64]) -> bool
     requires { ⌜ 16 ≤ length (now part) ⌝ }
     ensures { λ r. ⌜ r ≡ allZero (now (part .entry)) ⌝ }
 {
-    for slot in 0..SLOTS {
-        let value = part[slot];
-        if !whole::is_zero(value) {
-            return false;
-        }
-    }
-    true
+    all_within(part, SLOTS, ZERO)
 }
 
 // Whether both are 0.

@@ -12,11 +12,19 @@ use Rattle.slices.proofs.contents.Tie as tie
 terms : (c : tie.Else1) → termsHold (c .before .before .args .g) ≡ true
 terms c = sym (c .before .terms-hold .ensures) ∙ not-false (c .before .terms-hold .result) (c .if1 .left)
 
-columns : (c : tie.Else2) → widthsHold (c .before .before .before .before .args .columns .now) (c .before .before .before .before .args .g .columns) ≡ true
-columns c = sym (c .before .widths-hold .ensures) ∙ not-false (c .before .widths-hold .result) (c .if2 .left)
+widths : (c : tie.Else2) → widthsHold (c .before .before .before .before .args .g) (c .before .before .before .before .args .columns .now) (c .before .before .before .before .args .rows .now) ≡ true
+widths c = sym (c .before .widths-hold .ensures) ∙ not-false (c .before .widths-hold .result) (c .if2 .left)
 
-rows : (c : tie.Else3) → widthsHold (c .before .before .before .before .before .before .args .rows .now) (c .before .before .before .before .before .before .args .g .rows) ≡ true
-rows c = sym (c .before .widths-hold2 .ensures) ∙ not-false (c .before .widths-hold2 .result) (c .if3 .left)
+-- the last of the list
+at-fault : (b : ℕ) → 0 < b → refusal 6 b ≡ orElse (blaming 6 b) none
+unfolding orElse
+at-fault zero h = absurd (omega arith)
+at-fault (suc b) h = refl
+
+faultless : (b : ℕ) → b ≤ 0 → none ≡ orElse (blaming 6 b) none
+unfolding orElse
+faultless zero h = refl
+faultless (suc b) h = absurd (omega arith)
 
 returns : tie.Need-returns
 unfolding contentsOf firstRefusal orElse
@@ -30,32 +38,13 @@ returns-3 : tie.Need-returns-3
 unfolding contentsOf firstRefusal orElse
 returns-3 c =
     let w = c .before .before in
-    rw (terms (w .before .before), columns w, sym (c .before .widths-hold2 .ensures) ∙ not-true (c .before .widths-hold2 .result) (c .if3 .taken))
-
--- the last of the list
-last : (b : ℕ) → 0 < b → refusal 6 b ≡ orElse (blaming 6 b) none
-unfolding orElse
-last zero h = absurd (omega arith)
-last (suc b) h = refl
-
-none-left : (b : ℕ) → b ≤ 0 → none ≡ orElse (blaming 6 b) none
-unfolding orElse
-none-left zero h = refl
-none-left (suc b) h = absurd (omega arith)
+    rw (terms (w .before .before), widths w, ← c .before .first-fault .ensures) (at-fault (c .before .first-fault .result) (c .if3 .taken))
 
 returns-4 : tie.Need-returns-4
 unfolding contentsOf firstRefusal orElse
 returns-4 c =
-    let r = c .before .before in
-    let w = r .before .before in
-    rw (terms (w .before .before), columns w, rows r, ← c .before .first-fault .ensures) (last (c .before .first-fault .result) (c .if4 .taken))
-
-returns-5 : tie.Need-returns-5
-unfolding contentsOf firstRefusal orElse
-returns-5 c =
-    let r = c .before .before in
-    let w = r .before .before in
-    rw (terms (w .before .before), columns w, rows r, ← c .before .first-fault .ensures) (none-left (c .before .first-fault .result) (c .if4 .left))
+    let w = c .before .before in
+    rw (terms (w .before .before), widths w, ← c .before .first-fault .ensures) (faultless (c .before .first-fault .result) (c .if3 .left))
 
 pub contents-spec : {M : Type 1} → statement M
 contents-spec =
@@ -67,6 +56,4 @@ contents-spec =
     returns-2
     (λ c κs. search needs)
     returns-3
-    (λ c κs. search needs)
-    returns-4
-    returns-5)
+    returns-4)

@@ -1,82 +1,17 @@
--- `widths_hold` meets its contract. The invariant: every width passed is in range. Assumes nothing.
-use mathlib.Core.Path.{_≡_, sym, ap, _∙_}
-use mathlib.Core.Bool.{Bool, true}
-use mathlib.Core.List.{List}
-use Prim.Native.Nat.{ℕ, _-_, _≤_}
-use native.Mathlib.Omega.{arith}
-use borrow.Author.Tests.{not-true, not-false}
-use lib.IntN.{ℤ, pos}
-use lib.ListN.{getD}
-use Rattle.whole.specs.Search.{every}
-use Rattle.whole.proofs.RangeLaws.{read-back}
-use Rattle.whole.proofs.SearchLaws.{every-start, every-more, every-fails}
-use Rattle.grid.specs.Units.{mostWidth}
-use Rattle.slots.specs.Ranges.{between, inRange}
+-- `widths_hold` meets its contract: the rows are asked only where the columns hold. Assumes nothing.
+use mathlib.Core.Path.{sym, _∙_}
+use borrow.Author.Needs.{needs}
 use Rattle.slices.specs.Slices.{widthsHold}
 use Rattle.slices.proofs.widths_hold.Statement.{statement}
 use Rattle.slices.proofs.widths_hold.Tie as tie
 
-abbrev within : List ℤ → ℕ → Bool
-within widths k = inRange (between (pos 1) (pos mostWidth)) (getD widths k (pos 0))
-
-abbrev Inv-loop : tie.InvT-loop
-Inv-loop widths count k₀ k = (k ≤ count) × (every k (within widths) ≡ true)
-
-abbrev μ-loop : tie.MeasureT-loop
-μ-loop widths count k₀ k = count - k
-
-loop-holds : tie.Need-loop-holds Inv-loop μ-loop
-loop-holds c = (omega arith, every-start (within (c .args .widths .now)))
-
-mul-width : tie.Need-mul-width Inv-loop μ-loop
-mul-width c = omega arith
-
-shared-slice-copy-out-width : tie.Need-shared-slice-copy-out-width Inv-loop μ-loop
-shared-slice-copy-out-width c = omega arith
-
-in-range-requires : tie.Need-in-range-requires Inv-loop μ-loop
-in-range-requires c κs = tt
-
--- what the call tells of the width
-told : (c : tie.After-in-range Inv-loop μ-loop) → within (c .before .before .before .before .args .widths .now) (c .before .before .before .loop .k) ≡ c .in-range .result
-told c = sym (c .in-range .ensures ∙ ap (inRange (between (pos 1) (pos mostWidth))) (read-back (getD (c .before .before .before .before .args .widths .now) (c .before .before .before .loop .k) (pos 0)) (c .before .width .given)))
-
-returns : tie.Need-returns Inv-loop μ-loop
+returns : tie.Need-returns
 unfolding widthsHold
-returns c =
-    let l = c .before .before .before .before in
-    sym (every-fails (within (l .before .args .widths .now)) (l .loop .k) (l .before .args .count) (omega arith) (told (c .before) ∙ not-true (c .before .in-range .result) (c .if1 .taken)))
+returns c = rw (sym (c .before .before .all-within .ensures) ∙ c .before .if1 .taken) (c .all-within2 .ensures)
 
-add-k : tie.Need-add-k Inv-loop μ-loop
-add-k c = omega arith
-
-loop-less : tie.Need-loop-less Inv-loop μ-loop
-loop-less c = omega arith
-
-loop-again : tie.Need-loop-again Inv-loop μ-loop
-loop-again c =
-    let l = c .before .before .before .before in
-    (omega arith, every-more (within (l .before .args .widths .now)) (l .loop .k) (l .loop .inv .1) (told (c .before) ∙ not-false (c .before .in-range .result) (c .if1 .left)))
-
-returns-2 : tie.Need-returns-2 Inv-loop μ-loop
+returns-2 : tie.Need-returns-2
 unfolding widthsHold
-returns-2 c =
-    let l = c .before in
-    let e : l .loop .k ≡ l .before .args .count = omega arith in
-    rw (← e) (sym (l .loop .inv .1))
+returns-2 c = rw (sym (c .before .all-within .ensures) ∙ c .if1 .left)
 
 pub widths-hold-spec : {M : Type 1} → statement M
-widths-hold-spec =
-    tie.close
-    (tie.spec
-    Inv-loop
-    μ-loop
-    loop-holds
-    mul-width
-    shared-slice-copy-out-width
-    in-range-requires
-    returns
-    add-k
-    loop-less
-    loop-again
-    returns-2)
+widths-hold-spec = tie.close (tie.spec (λ c κs. search needs) (λ c κs. search needs) returns returns-2)
