@@ -1,2 +1,3 @@
--- Laws of places and links. They hold nothing to believe.
+-- Laws of the record, of places and of links. They hold nothing to believe.
 pub mod PlaceLaws
+pub mod JudgingLaws

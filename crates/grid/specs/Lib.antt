@@ -1,2 +1,3 @@
 pub mod Units
 pub mod Place
+pub mod Judging

@@ -1,4 +1,4 @@
--- Units and ranges (document 01): the limits of a case's record and widths, each by name. src/units.rt has the same names and numbers.
+-- Units and ranges (document 01): the limits of a case's record, each by name. src/units.rt has the same names and numbers.
 use Prim.Native.Nat.{ℕ}
 
 -- "columns, rows; layers | 1..=64 each; 1..=8; blocks at most 512"
@@ -22,7 +22,3 @@ mostStep = 36525
 -- "tolerance, litres/day | 0..=1,000,000,000"
 abbrev pub mostTolerance : ℕ
 mostTolerance = 1000000000
-
--- "column and row widths, m | 1..=4,096"
-abbrev pub mostWidth : ℕ
-mostWidth = 4096

@@ -1,5 +1,6 @@
 // The grid of a case: its record, its blocks and links, a block's sixteen slots, and what slices are refused with before any
 // physics, 3, 7, 4, 5 and 6 (document 01, "Units and ranges" and "Refusal numbers").
+pub mod judging;
 pub mod place;
 pub mod units;
 

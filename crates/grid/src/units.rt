@@ -1,4 +1,4 @@
-// The limits of a case's record and widths (document 01, "Units and ranges"), each by name. specs/Units.antt has the same names and numbers.
+// The limits of a case's record (document 01, "Units and ranges"), each by name. specs/Units.antt has the same names and numbers.
 
 // Columns and rows, each.
 pub const MOST_ACROSS: usize = 64;
@@ -12,5 +12,3 @@ pub const MOST_DELTA: i64 = 100;
 pub const MOST_STEP: i64 = 36_525;
 // Litres a day.
 pub const MOST_TOLERANCE: i64 = 1_000_000_000;
-// Metres.
-pub const MOST_WIDTH: i64 = 4_096;

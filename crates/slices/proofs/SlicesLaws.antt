@@ -2,7 +2,7 @@
 use mathlib.Core.Path.{_≡_, refl}
 use mathlib.Core.Bool.{Bool, true, false, not, cond, _&&_}
 use mathlib.Core.List.{List, [], _∷_, _++_}
-use Prim.Native.Nat.{ℕ, zero, suc, _*_, _≤_, _<_}
+use Prim.Native.Nat.{ℕ, zero, suc, _*_, _<_}
 use native.Mathlib.Decide.{ℕ-discrete}
 use native.Mathlib.Omega.{arith}
 use borrow.Author.Tests.{eq-eqb, ne-eqb, not-false}
@@ -12,15 +12,17 @@ use lib.ListN.{length}
 use Rattle.whole.proofs.SearchLaws.{holds, both, first-none}
 use Rattle.grid.specs.declared.Grid.{Grid}
 use Rattle.slices.specs.declared.Refusal.{Refusal}
-use Rattle.grid.specs.Units.{mostAcross, mostLayers, mostBlocks, mostDelta, mostStep, mostTolerance, mostWidth}
 use Rattle.slots.specs.Units.{slotsEach}
 use Rattle.grid.specs.Place.{blocksOf, topOf, Counted}
-use Rattle.slots.specs.declared.ranges.Range.{Range}
-use Rattle.slots.specs.Ranges.{between, inRange, allWithin}
+use Rattle.whole.specs.declared.ranges.Range.{Range}
+use Rattle.whole.specs.Ranges.{between, allWithin}
 use Rattle.slots.specs.Slots.{partOf}
 use Rattle.slots.specs.Rules.{slotsHold}
-use Rattle.slices.specs.Slices.{Case, unless, blaming, orElse, firstRefusal, countWithin, countsHold, roomHolds, termsHold, widthsHold, faultOf, shapeOf, contentsOf, judgedOf, Roomy, Termed, Judged}
-use Rattle.slots.proofs.SlotsLaws.{range-in, within-at, slots-active, slots-inactive}
+use Rattle.slices.specs.Slices.{Case, unless, blaming, orElse, firstRefusal, roomHolds, widthsHold, faultOf, shapeOf, contentsOf, judgedOf, Roomy, Judged, mostWidth}
+use Rattle.grid.specs.Judging.{countsHold, termsHold}
+use Rattle.grid.proofs.JudgingLaws.{counts-counted, terms-termed}
+use Rattle.whole.proofs.WithinLaws.{within-at}
+use Rattle.slots.proofs.SlotsLaws.{slots-active, slots-inactive}
 
 -- ---- the order of refusals
 
@@ -75,50 +77,12 @@ blames-none n (suc b) h m e = absurd (h (none-among m e))
 
 -- ---- what holds of a case that is not refused
 
-pub within-count : (n most : ℕ) → T (countWithin n most) → (1 ≤ n) × (n ≤ most)
-within-count n most t = let h = both (leb 1 n) (leb n most) t in (leb→le 1 n (h .0), leb→le n most (h .1))
-
-pub counts-counted : (g : Grid) → T (countsHold g) → Counted g
-unfolding countsHold
-counts-counted g t =
-    let a = both (countWithin (g .columns) mostAcross) (countWithin (g .rows) mostAcross && (countWithin (g .layers) mostLayers && leb (blocksOf g) mostBlocks)) t in
-    let b = both (countWithin (g .rows) mostAcross) (countWithin (g .layers) mostLayers && leb (blocksOf g) mostBlocks) (a .1) in
-    let d = both (countWithin (g .layers) mostLayers) (leb (blocksOf g) mostBlocks) (b .1) in
-    let columns = within-count (g .columns) mostAcross (a .0) in
-    let rows = within-count (g .rows) mostAcross (b .0) in
-    let layers = within-count (g .layers) mostLayers (d .0) in
-    record {
-      columns-some = columns .0;
-      columns-most = columns .1;
-      rows-some = rows .0;
-      rows-most = rows .1;
-      layers-some = layers .0;
-      layers-most = layers .1;
-      blocks-most = leb→le (blocksOf g) mostBlocks (d .1);
-    }
-
 pub room-roomy : (c : Case) → T (roomHolds c) → Roomy c
 unfolding roomHolds
 room-roomy c t =
     let a = both (leb (c .grid .columns) (length (c .columns))) (leb (c .grid .rows) (length (c .rows)) && leb (slotsEach * blocksOf (c .grid)) (length (c .slots))) t in
     let b = both (leb (c .grid .rows) (length (c .rows))) (leb (slotsEach * blocksOf (c .grid)) (length (c .slots))) (a .1) in
     record { columns = leb→le _ _ (a .0); rows = leb→le _ _ (b .0); slots = leb→le _ _ (b .1) }
-
-pub terms-termed : (g : Grid) → T (termsHold g) → Termed g
-unfolding termsHold
-terms-termed g t =
-    let delta = inRange (between (pos 1) (pos mostDelta)) (g .delta) in
-    let step = inRange (between (pos 1) (pos mostStep)) (g .step) in
-    let tolerance = inRange (between (pos 0) (pos mostTolerance)) (g .tolerance) in
-    let a = both delta (leb (g .flag) 1 && (step && tolerance)) t in
-    let b = both (leb (g .flag) 1) (step && tolerance) (a .1) in
-    let d = both step tolerance (b .1) in
-    record {
-      delta = range-in (between (pos 1) (pos mostDelta)) (g .delta) (a .0);
-      flag = leb→le (g .flag) 1 (b .0);
-      step = range-in (between (pos 1) (pos mostStep)) (g .step) (d .0);
-      tolerance = range-in (between (pos 0) (pos mostTolerance)) (g .tolerance) (d .1);
-    }
 
 faultless : (g : Grid) (slots : List ℤ) → faultOf g slots ≡ 0 → (i : ℕ) → i < blocksOf g → T (slotsHold (partOf slots i) (topOf g i))
 unfolding faultOf

@@ -6,7 +6,8 @@ use borrow.Author.Tests.{le-leb}
 use lib.IntN.{ℤ, pos}
 use lib.ListN.{length}
 use Rattle.grid.specs.declared.Grid.{Grid}
-use Rattle.slices.specs.Slices.{caseOf, none, refusal, orElse, firstRefusal, countsHold, roomHolds, shapeOf, contentsOf, judgedOf}
+use Rattle.grid.specs.Judging.{countsHold}
+use Rattle.slices.specs.Slices.{caseOf, none, refusal, orElse, firstRefusal, roomHolds, shapeOf, contentsOf, judgedOf}
 
 abbrev pub sized : ℕ → ℕ → ℕ → Grid
 sized columns rows layers = record { columns = columns; rows = rows; layers = layers; delta = pos 40; flag = 0; step = pos 30; tolerance = pos 5 }

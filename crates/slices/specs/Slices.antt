@@ -10,10 +10,10 @@ use Rattle.whole.specs.Whole.{In}
 use Rattle.whole.specs.Search.{firstOf}
 use Rattle.grid.specs.declared.Grid.{Grid}
 use Rattle.slices.specs.declared.Refusal.{Refusal}
-use Rattle.grid.specs.Units.{mostAcross, mostLayers, mostBlocks, mostDelta, mostStep, mostTolerance, mostWidth}
 use Rattle.slots.specs.Units.{slotsEach}
+use Rattle.grid.specs.Judging.{countsHold, termsHold, Termed}
 use Rattle.grid.specs.Place.{blocksOf, topOf, Counted}
-use Rattle.slots.specs.Ranges.{between, inRange, allWithin}
+use Rattle.whole.specs.Ranges.{between, allWithin}
 use Rattle.slots.specs.Slots.{partOf, blockOf, isActive}
 use Rattle.slots.specs.Rules.{slotsHold, Active}
 
@@ -55,22 +55,13 @@ firstRefusal (x ∷ xs) = orElse x (firstRefusal xs)
 
 -- ---- what is judged
 
-abbrev pub countWithin : ℕ → ℕ → Bool
-countWithin n most = leb 1 n && leb n most
-
--- 3: "a count or the block total is out of range"
-unfoldable pub countsHold : Grid → Bool
-countsHold g = countWithin (g .columns) mostAcross && (countWithin (g .rows) mostAcross && (countWithin (g .layers) mostLayers && leb (blocksOf g) mostBlocks))
+-- "column and row widths, m | 1..=4,096"
+abbrev pub mostWidth : ℕ
+mostWidth = 4096
 
 -- 7: "a lent slice is too short"
 unfoldable pub roomHolds : Case → Bool
 roomHolds c = leb (c .grid .columns) (length (c .columns)) && (leb (c .grid .rows) (length (c .rows)) && leb (slotsEach * blocksOf (c .grid)) (length (c .slots)))
-
--- 4: "δ, flag, step or tolerance is out of range"
-unfoldable pub termsHold : Grid → Bool
-termsHold g =
-    inRange (between (pos 1) (pos mostDelta)) (g .delta)
-    && (leb (g .flag) 1 && (inRange (between (pos 1) (pos mostStep)) (g .step) && inRange (between (pos 0) (pos mostTolerance)) (g .tolerance)))
 
 -- 5: "a width is out of range", of the columns or of the rows
 unfoldable pub widthsHold : Grid → List ℤ → List ℤ → Bool
@@ -100,12 +91,6 @@ pub record Roomy (c : Case) : Type 0 where
   pub columns : c .grid .columns ≤ length (c .columns)
   pub rows : c .grid .rows ≤ length (c .rows)
   pub slots : slotsEach * blocksOf (c .grid) ≤ length (c .slots)
-
-pub record Termed (g : Grid) : Type 0 where
-  pub delta : In (pos 1) (pos mostDelta) (g .delta)
-  pub flag : g .flag ≤ 1
-  pub step : In (pos 1) (pos mostStep) (g .step)
-  pub tolerance : In (pos 0) (pos mostTolerance) (g .tolerance)
 
 pub record Judged (c : Case) : Type 0 where
   pub counted : Counted (c .grid)

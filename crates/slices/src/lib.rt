@@ -6,10 +6,7 @@ ghost use lib.ListN.{length};
 ghost use Rattle.grid.specs.Place.{Counted, blocksOf};
 ghost use Rattle.slices.specs.Slices.{
   caseOf,
-  countWithin,
-  countsHold,
   roomHolds,
-  termsHold,
   widthsHold,
   faultOf,
   shapeOf,
@@ -19,20 +16,14 @@ ghost use Rattle.slices.specs.Slices.{
   Roomy,
 };
 use grid::Grid;
+use grid::judging::counts_hold;
+use grid::judging::terms_hold;
 use grid::place::blocks;
 use grid::place::is_top;
-use grid::units::MOST_ACROSS;
-use grid::units::MOST_BLOCKS;
-use grid::units::MOST_DELTA;
-use grid::units::MOST_LAYERS;
-use grid::units::MOST_STEP;
-use grid::units::MOST_TOLERANCE;
-use grid::units::MOST_WIDTH;
-use slots::ranges::Range;
-use slots::ranges::all_within;
-use slots::ranges::in_range;
 use slots::rules::slots_hold;
 use slots::units::SLOTS;
+use whole::ranges::Range;
+use whole::ranges::all_within;
 
 // A refusal by its number in document 01 and the block that it names, counted from 1; 0 where it names none. Number 0 is no refusal.
 pub struct Refusal {
@@ -40,45 +31,13 @@ pub struct Refusal {
     pub block: usize,
 }
 
-const DELTAS: Range = Range {
-    lower: 1,
-    upper: MOST_DELTA,
-};
-
-const STEPS: Range = Range {
-    lower: 1,
-    upper: MOST_STEP,
-};
-
-const TOLERANCES: Range = Range {
-    lower: 0,
-    upper: MOST_TOLERANCE,
-};
+// Metres.
+const MOST_WIDTH: i64 = 4_096;
 
 const WIDTHS: Range = Range {
     lower: 1,
     upper: MOST_WIDTH,
 };
-
-fn count_within(n: usize, most: usize) -> bool
-    ensures { λ r. ⌜ r ≡ countWithin n most ⌝ }
-{
-    1 <= n && n <= most
-}
-
-// 3: "a count or the block total is out of range". The total is worked out only of counts that are in range.
-pub fn counts_hold(g: Grid) -> bool
-    ensures { λ r. ⌜ r ≡ countsHold g ⌝ }
-{
-    if count_within(g.columns, MOST_ACROSS) {
-        if count_within(g.rows, MOST_ACROSS) {
-            if count_within(g.layers, MOST_LAYERS) {
-                return g.columns * g.rows * g.layers <= MOST_BLOCKS;
-            }
-        }
-    }
-    false
-}
 
 // 7: "a lent slice is too short". Inner: the counts are in range.
 pub fn room_holds(g: Grid, columns: &[i64], rows: &[i64], slots: &[i64]) -> bool
@@ -88,20 +47,6 @@ pub fn room_holds(g: Grid, columns: &[i64], rows: &[i64], slots: &[i64]) -> bool
     if g.columns <= columns.len() {
         if g.rows <= rows.len() {
             return SLOTS * blocks(g) <= slots.len();
-        }
-    }
-    false
-}
-
-// 4: "δ, flag, step or tolerance is out of range".
-pub fn terms_hold(g: Grid) -> bool
-    ensures { λ r. ⌜ r ≡ termsHold g ⌝ }
-{
-    if in_range(DELTAS, g.delta) {
-        if g.flag <= 1 {
-            if in_range(STEPS, g.step) {
-                return in_range(TOLERANCES, g.tolerance);
-            }
         }
     }
     false

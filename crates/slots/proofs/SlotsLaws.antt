@@ -14,21 +14,13 @@ use Rattle.whole.specs.Search.{every}
 use Rattle.whole.proofs.LinearLaws.{from1, signed, #}
 use Rattle.whole.proofs.OrderLaws.{≤ℤ-antisymm}
 use Rattle.whole.proofs.SearchLaws.{both, every-all}
-use Rattle.slots.specs.declared.ranges.Range.{Range}
+use Rattle.whole.proofs.WithinLaws.{range-in, within-at}
+use Rattle.whole.specs.declared.ranges.Range.{Range}
 use Rattle.slots.specs.Units.{slotsEach, mostPumpage}
-use Rattle.slots.specs.Ranges.{between, rangeOf, inRange, endsHold, allWithin}
+use Rattle.whole.specs.Ranges.{between, inRange}
+use Rattle.slots.specs.Ranges.{rangeOf, endsHold}
 use Rattle.slots.specs.Slots.{slotsAt, partOf, isActive, Ends}
 use Rattle.slots.specs.Rules.{allZero, rulesHold, slotsHold, Active}
-
-pub range-in : (r : Range) (v : ℤ) → T (inRange r v) → In (r .lower) (r .upper) v
-unfolding inRange
-range-in r v t =
-    let h = both (leZ (r .lower) v) (leZ v (r .upper)) t in
-    record { low = leZ-yes (h .0); high = leZ-yes (h .1) }
-
-pub within-at : (r : Range) (values : List ℤ) (n : ℕ) → T (allWithin r values n) → (k : ℕ) → k < n → In (r .lower) (r .upper) (getD values k (pos 0))
-unfolding allWithin
-within-at r values n t k l = range-in r (getD values k (pos 0)) (every-all (λ k. inRange r (getD values k (pos 0))) n t k l)
 
 -- ---- the table's rule: its ends are the right way round, and none is further from 0 than the greatest pumpage
 

@@ -1,16 +1,13 @@
 -- "The lower and upper end for each slot stand in one fixed table." (document 01, "Units and ranges")
-use mathlib.Core.Bool.{Bool, _&&_}
+use mathlib.Core.Bool.{Bool}
 use mathlib.Core.List.{List, [], _∷_}
 use Prim.Native.Nat.{ℕ}
 use lib.IntN.{ℤ, pos, negℤ}
 use lib.ListN.{getD}
-use lib.Signed.{leZ}
-use Rattle.slots.specs.declared.ranges.Range.{Range}
+use Rattle.whole.specs.declared.ranges.Range.{Range}
+use Rattle.whole.specs.Ranges.{between, inRange}
 use Rattle.whole.specs.Search.{every}
 use Rattle.slots.specs.Units.{slotsEach, mostK, mostLevel, mostThickness, mostPorosity, mostLeakance, mostRecharge, mostPumpage, mostScreen, mostKind}
-
-abbrev pub between : ℤ → ℤ → Range
-between a b = record { lower = a; upper = b }
 
 -- "K, base, thickness, porosity, leakance, recharge, pumpage, screen bottom, screen top, kind, stage or floor, boundary leakance, old fresh,
 -- old salt, new fresh, new salt." "There screens run from -4,194,304 to 8,388,608, stage or floor over ±4,194,304, and boundary leakance from 0."
@@ -38,14 +35,6 @@ ranges =
 unfoldable pub rangeOf : ℕ → Range
 rangeOf slot = getD ranges slot (between (pos 0) (pos 0))
 
--- a number within its ends
-unfoldable pub inRange : Range → ℤ → Bool
-inRange r v = leZ (r .lower) v && leZ v (r .upper)
-
 -- every slot of a block within its ends
 unfoldable pub endsHold : List ℤ → Bool
 endsHold s = every slotsEach (λ slot. inRange (rangeOf slot) (getD s slot (pos 0)))
-
--- the first n of some numbers, all within one pair of ends
-unfoldable pub allWithin : Range → List ℤ → ℕ → Bool
-allWithin r values n = every n (λ k. inRange r (getD values k (pos 0)))

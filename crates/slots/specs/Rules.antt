@@ -7,7 +7,8 @@ use lib.Signed.{_≤ℤ_, leZ, ltZ}
 use Rattle.whole.specs.Whole.{isZero}
 use Rattle.slots.specs.declared.Block.{Block}
 use Rattle.slots.specs.Units.{slotsEach}
-use Rattle.slots.specs.Ranges.{between, inRange, endsHold, allWithin}
+use Rattle.whole.specs.Ranges.{between, inRange, allWithin}
+use Rattle.slots.specs.Ranges.{endsHold}
 use Rattle.slots.specs.Slots.{slotsAt, isActive, Ends}
 
 -- "An inactive block has all 16 zero."

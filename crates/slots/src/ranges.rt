@@ -2,7 +2,7 @@
 ghost use mathlib.Core.Path.{_≡_};
 ghost use Prim.Native.Nat.{_≤_};
 ghost use lib.ListN.{length};
-ghost use Rattle.slots.specs.Ranges.{rangeOf, inRange, endsHold, allWithin};
+ghost use Rattle.slots.specs.Ranges.{rangeOf, endsHold};
 use super::units::MOST_K;
 use super::units::MOST_KIND;
 use super::units::MOST_LEAKANCE;
@@ -13,12 +13,8 @@ use super::units::MOST_RECHARGE;
 use super::units::MOST_SCREEN;
 use super::units::MOST_THICKNESS;
 use super::units::SLOTS;
-
-// A lower and an upper end, both within.
-pub struct Range {
-    pub lower: i64,
-    pub upper: i64,
-}
+use whole::ranges::Range;
+use whole::ranges::in_range;
 
 // "The lower and upper end for each slot stand in one fixed table", in the slots' order.
 const RANGES: [Range; 16] = [
@@ -115,13 +111,6 @@ pub fn range_of(slot: usize) -> Range
     }
 }
 
-// Whether a number lies within its ends.
-pub fn in_range(range: Range, value: i64) -> bool
-    ensures { λ r. ⌜ r ≡ inRange range value ⌝ }
-{
-    range.lower <= value && value <= range.upper
-}
-
 // Whether each of the sixteen lies within the ends of its slot. Inner: there are so many.
 pub fn ends_hold(part: &[i64]) -> bool
     requires { ⌜ 16 ≤ length (now part) ⌝ }
@@ -130,20 +119,6 @@ pub fn ends_hold(part: &[i64]) -> bool
     for slot in 0..SLOTS {
         let value = part[slot];
         if !in_range(range_of(slot), value) {
-            return false;
-        }
-    }
-    true
-}
-
-// Whether the first `count` of some numbers all lie within one pair of ends. Inner: there are so many.
-pub fn all_within(values: &[i64], count: usize, range: Range) -> bool
-    requires { ⌜ count ≤ length (now values) ⌝ }
-    ensures { λ r. ⌜ r ≡ allWithin range (now (values .entry)) count ⌝ }
-{
-    for k in 0..count {
-        let value = values[k];
-        if !in_range(range, value) {
             return false;
         }
     }

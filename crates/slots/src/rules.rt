@@ -16,12 +16,12 @@ ghost use Rattle.slots.specs.Rules.{
 };
 ghost use Rattle.slots.specs.Slots.{Ends};
 use super::Block;
-use super::ranges::Range;
-use super::ranges::all_within;
 use super::ranges::ends_hold;
-use super::ranges::in_range;
 use super::slots_at;
 use super::units::SLOTS;
+use whole::ranges::Range;
+use whole::ranges::all_within;
+use whole::ranges::in_range;
 
 const ZERO: Range = Range { lower: 0, upper: 0 };
 

@@ -7,3 +7,4 @@ pub mod RingLaws
 pub mod RangeLaws
 pub mod SumLaws
 pub mod SearchLaws
+pub mod WithinLaws

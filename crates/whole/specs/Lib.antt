@@ -1,3 +1,4 @@
 pub mod Whole
 pub mod Sum
 pub mod Search
+pub mod Ranges

@@ -1,4 +1,6 @@
 // Whole numbers: floor, cut, the lesser, the greater, a number that is held between two (document 01, "Units and ranges").
+pub mod ranges;
+
 ghost use mathlib.Core.Path.{_≡_};
 ghost use lib.IntN.{pos};
 ghost use lib.Signed.{_≤ℤ_};

@@ -5,7 +5,8 @@ use Prim.Native.Nat.{ℕ, zero, suc, _<_, _≤_}
 use native.Mathlib.Omega.{arith}
 use borrow.Author.Needs.{needs}
 use borrow.Author.Tests.{not-true, not-false}
-use Rattle.slices.specs.Slices.{none, refusal, blaming, termsHold, widthsHold, orElse, firstRefusal, contentsOf}
+use Rattle.grid.specs.Judging.{termsHold}
+use Rattle.slices.specs.Slices.{none, refusal, blaming, widthsHold, orElse, firstRefusal, contentsOf}
 use Rattle.slices.proofs.contents.Statement.{statement}
 use Rattle.slices.proofs.contents.Tie as tie
 

@@ -3,7 +3,8 @@ use mathlib.Core.Path.{refl, sym}
 use lib.IntN.{pos}
 use lib.ListN.{List·getD-eq-default}
 use borrow.Author.Needs.{needs}
-use Rattle.slots.specs.Ranges.{between, ranges, rangeOf}
+use Rattle.whole.specs.Ranges.{between}
+use Rattle.slots.specs.Ranges.{ranges, rangeOf}
 use Rattle.slots.proofs.ranges.range_of.Statement.{statement}
 use Rattle.slots.proofs.ranges.range_of.Tie as tie
 

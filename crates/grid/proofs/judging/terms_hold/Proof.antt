@@ -4,11 +4,11 @@ use borrow.Author.Needs.{needs}
 use borrow.Author.Tests.{le-leb, lt-leb}
 use lib.IntN.{pos}
 use Rattle.whole.proofs.RangeLaws.{read-back}
 use Rattle.grid.specs.Units.{mostDelta, mostStep, mostTolerance}
-use Rattle.slots.specs.Ranges.{between, inRange}
-use Rattle.slices.specs.Slices.{termsHold}
-use Rattle.slices.proofs.terms_hold.Statement.{statement}
-use Rattle.slices.proofs.terms_hold.Tie as tie
+use Rattle.whole.specs.Ranges.{between, inRange}
+use Rattle.grid.specs.Judging.{termsHold}
+use Rattle.grid.proofs.judging.terms_hold.Statement.{statement}
+use Rattle.grid.proofs.judging.terms_hold.Tie as tie
 
 delta : (c : tie.After-in-range) → inRange (between (pos 1) (pos mostDelta)) (c .before .before .args .g .delta) ≡ c .in-range .result
 delta c =

@@ -5,10 +5,10 @@ use native.Mathlib.Nat.{mul-le-mul}
 use native.Mathlib.Omega.{arith}
 use borrow.Author.Needs.{needs}
 use Rattle.whole.proofs.SearchLaws.{holds}
-use Rattle.slices.specs.Slices.{countWithin, countsHold}
-use Rattle.slices.proofs.SlicesLaws.{within-count}
-use Rattle.slices.proofs.counts_hold.Statement.{statement}
-use Rattle.slices.proofs.counts_hold.Tie as tie
+use Rattle.grid.specs.Judging.{countWithin, countsHold}
+use Rattle.grid.proofs.JudgingLaws.{within-count}
+use Rattle.grid.proofs.judging.counts_hold.Statement.{statement}
+use Rattle.grid.proofs.judging.counts_hold.Tie as tie
 
 -- each count in range
 columns : (c : tie.Then1) → countWithin (c .before .before .args .g .columns) 64 ≡ true

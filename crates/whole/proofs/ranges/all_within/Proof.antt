@@ -7,13 +7,13 @@ use native.Mathlib.Omega.{arith}
 use borrow.Author.Tests.{not-true, not-false}
 use lib.IntN.{ℤ, pos}
 use lib.ListN.{getD}
 use Rattle.whole.specs.Search.{every}
 use Rattle.whole.proofs.RangeLaws.{read-back}
 use Rattle.whole.proofs.SearchLaws.{every-start, every-more, every-fails}
-use Rattle.slots.specs.declared.ranges.Range.{Range}
-use Rattle.slots.specs.Ranges.{inRange, allWithin}
-use Rattle.slots.proofs.ranges.all_within.Statement.{statement}
-use Rattle.slots.proofs.ranges.all_within.Tie as tie
+use Rattle.whole.specs.declared.ranges.Range.{Range}
+use Rattle.whole.specs.Ranges.{inRange, allWithin}
+use Rattle.whole.proofs.ranges.all_within.Statement.{statement}
+use Rattle.whole.proofs.ranges.all_within.Tie as tie
 
 abbrev within : Range → List ℤ → ℕ → Bool
 within range values k = inRange range (getD values k (pos 0))

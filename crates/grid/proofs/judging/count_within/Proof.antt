@@ -1,7 +1,7 @@
 -- `count_within` meets its contract: its two tests are the definition's. Assumes nothing.
 use borrow.Author.Tests.{le-leb, lt-leb}
-use Rattle.slices.proofs.count_within.Statement.{statement}
-use Rattle.slices.proofs.count_within.Tie as tie
+use Rattle.grid.proofs.judging.count_within.Statement.{statement}
+use Rattle.grid.proofs.judging.count_within.Tie as tie
 
 returns : tie.Need-returns
 returns c = rw (le-leb 1 (c .before .args .n) (c .if1 .taken))

@@ -1,0 +1,50 @@
+-- What the record of a case tells where it is not refused. Assumes nothing.
+use mathlib.Core.Bool.{_&&_}
+use Prim.Native.Nat.{ℕ, _≤_}
+use lib.Dec.{T, leb, leb→le}
+use lib.IntN.{pos}
+use Rattle.whole.specs.Ranges.{between, inRange}
+use Rattle.whole.proofs.SearchLaws.{both}
+use Rattle.whole.proofs.WithinLaws.{range-in}
+use Rattle.grid.specs.declared.Grid.{Grid}
+use Rattle.grid.specs.Units.{mostAcross, mostLayers, mostBlocks, mostDelta, mostStep, mostTolerance}
+use Rattle.grid.specs.Place.{blocksOf, Counted}
+use Rattle.grid.specs.Judging.{countWithin, countsHold, termsHold, Termed}
+
+pub within-count : (n most : ℕ) → T (countWithin n most) → (1 ≤ n) × (n ≤ most)
+within-count n most t = let h = both (leb 1 n) (leb n most) t in (leb→le 1 n (h .0), leb→le n most (h .1))
+
+pub counts-counted : (g : Grid) → T (countsHold g) → Counted g
+unfolding countsHold
+counts-counted g t =
+    let a = both (countWithin (g .columns) mostAcross) (countWithin (g .rows) mostAcross && (countWithin (g .layers) mostLayers && leb (blocksOf g) mostBlocks)) t in
+    let b = both (countWithin (g .rows) mostAcross) (countWithin (g .layers) mostLayers && leb (blocksOf g) mostBlocks) (a .1) in
+    let d = both (countWithin (g .layers) mostLayers) (leb (blocksOf g) mostBlocks) (b .1) in
+    let columns = within-count (g .columns) mostAcross (a .0) in
+    let rows = within-count (g .rows) mostAcross (b .0) in
+    let layers = within-count (g .layers) mostLayers (d .0) in
+    record {
+      columns-some = columns .0;
+      columns-most = columns .1;
+      rows-some = rows .0;
+      rows-most = rows .1;
+      layers-some = layers .0;
+      layers-most = layers .1;
+      blocks-most = leb→le (blocksOf g) mostBlocks (d .1);
+    }
+
+pub terms-termed : (g : Grid) → T (termsHold g) → Termed g
+unfolding termsHold
+terms-termed g t =
+    let delta = inRange (between (pos 1) (pos mostDelta)) (g .delta) in
+    let step = inRange (between (pos 1) (pos mostStep)) (g .step) in
+    let tolerance = inRange (between (pos 0) (pos mostTolerance)) (g .tolerance) in
+    let a = both delta (leb (g .flag) 1 && (step && tolerance)) t in
+    let b = both (leb (g .flag) 1) (step && tolerance) (a .1) in
+    let d = both step tolerance (b .1) in
+    record {
+      delta = range-in (between (pos 1) (pos mostDelta)) (g .delta) (a .0);
+      flag = leb→le (g .flag) 1 (b .0);
+      step = range-in (between (pos 1) (pos mostStep)) (g .step) (d .0);
+      tolerance = range-in (between (pos 0) (pos mostTolerance)) (g .tolerance) (d .1);
+    }

@@ -1,0 +1,30 @@
+-- What the record of a case is refused with (document 01, "Refusal numbers").
+use mathlib.Core.Bool.{Bool, _&&_}
+use Prim.Native.Nat.{ℕ, _≤_}
+use lib.Dec.{leb}
+use lib.IntN.{pos}
+use Rattle.whole.specs.Whole.{In}
+use Rattle.whole.specs.Ranges.{between, inRange}
+use Rattle.grid.specs.declared.Grid.{Grid}
+use Rattle.grid.specs.Units.{mostAcross, mostLayers, mostBlocks, mostDelta, mostStep, mostTolerance}
+use Rattle.grid.specs.Place.{blocksOf}
+
+abbrev pub countWithin : ℕ → ℕ → Bool
+countWithin n most = leb 1 n && leb n most
+
+-- 3: "a count or the block total is out of range"
+unfoldable pub countsHold : Grid → Bool
+countsHold g = countWithin (g .columns) mostAcross && (countWithin (g .rows) mostAcross && (countWithin (g .layers) mostLayers && leb (blocksOf g) mostBlocks))
+
+-- 4: "δ, flag, step or tolerance is out of range"
+unfoldable pub termsHold : Grid → Bool
+termsHold g =
+    inRange (between (pos 1) (pos mostDelta)) (g .delta)
+    && (leb (g .flag) 1 && (inRange (between (pos 1) (pos mostStep)) (g .step) && inRange (between (pos 0) (pos mostTolerance)) (g .tolerance)))
+
+-- what later parts require of the terms
+pub record Termed (g : Grid) : Type 0 where
+  pub delta : In (pos 1) (pos mostDelta) (g .delta)
+  pub flag : g .flag ≤ 1
+  pub step : In (pos 1) (pos mostStep) (g .step)
+  pub tolerance : In (pos 0) (pos mostTolerance) (g .tolerance)
