@@ -9,6 +9,7 @@ use Rattle.grid.specs.declared.Grid.{Grid}
 use Rattle.grid.specs.Units.{mostAcross, mostLayers, mostBlocks, mostDelta, mostStep, mostTolerance}
 use Rattle.grid.specs.Place.{blocksOf}
 
+-- a count from 1 to the most
 abbrev pub countWithin : ℕ → ℕ → Bool
 countWithin n most = leb 1 n && leb n most
 

@@ -26,6 +26,7 @@ const TOLERANCES: Range = Range {
     upper: MOST_TOLERANCE,
 };
 
+// A count from 1 to the most.
 fn count_within(n: usize, most: usize) -> bool
     ensures { λ r. ⌜ r ≡ countWithin n most ⌝ }
 {

@@ -9,20 +9,20 @@ use borrow.Author.Tests.{eq-eqb, ne-eqb, not-false}
 use lib.Dec.{T, leb, leb→le, eqb}
 use lib.IntN.{ℤ, pos}
 use lib.ListN.{length}
-use Rattle.whole.proofs.SearchLaws.{holds, both, first-none}
-use Rattle.grid.specs.declared.Grid.{Grid}
-use Rattle.slices.specs.declared.Refusal.{Refusal}
-use Rattle.slots.specs.Units.{slotsEach}
-use Rattle.grid.specs.Place.{blocksOf, topOf, Counted}
 use Rattle.whole.specs.declared.ranges.Range.{Range}
 use Rattle.whole.specs.Ranges.{between, allWithin}
-use Rattle.slots.specs.Slots.{partOf}
-use Rattle.slots.specs.Rules.{slotsHold}
-use Rattle.slices.specs.Slices.{Case, unless, blaming, orElse, firstRefusal, roomHolds, widthsHold, faultOf, shapeOf, contentsOf, judgedOf, Roomy, Judged, mostWidth}
+use Rattle.whole.proofs.SearchLaws.{holds, both, first-none}
+use Rattle.whole.proofs.WithinLaws.{within-at}
+use Rattle.grid.specs.declared.Grid.{Grid}
+use Rattle.grid.specs.Place.{blocksOf, topOf, Counted}
 use Rattle.grid.specs.Judging.{countsHold, termsHold}
 use Rattle.grid.proofs.JudgingLaws.{counts-counted, terms-termed}
-use Rattle.whole.proofs.WithinLaws.{within-at}
+use Rattle.slots.specs.Units.{slotsEach}
+use Rattle.slots.specs.Slots.{partOf}
+use Rattle.slots.specs.Rules.{slotsHold}
 use Rattle.slots.proofs.SlotsLaws.{slots-active, slots-inactive}
+use Rattle.slices.specs.declared.Refusal.{Refusal}
+use Rattle.slices.specs.Slices.{Case, unless, blaming, orElse, firstRefusal, roomHolds, widthsHold, faultOf, shapeOf, contentsOf, judgedOf, Roomy, Judged, mostWidth}
 
 -- ---- the order of refusals
 

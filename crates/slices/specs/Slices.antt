@@ -7,15 +7,15 @@ use lib.Dec.{T, leb, eqb}
 use lib.IntN.{ℤ, pos}
 use lib.ListN.{length, getD}
 use Rattle.whole.specs.Whole.{In}
+use Rattle.whole.specs.Ranges.{between, allWithin}
 use Rattle.whole.specs.Search.{firstOf}
 use Rattle.grid.specs.declared.Grid.{Grid}
-use Rattle.slices.specs.declared.Refusal.{Refusal}
-use Rattle.slots.specs.Units.{slotsEach}
-use Rattle.grid.specs.Judging.{countsHold, termsHold, Termed}
 use Rattle.grid.specs.Place.{blocksOf, topOf, Counted}
-use Rattle.whole.specs.Ranges.{between, allWithin}
+use Rattle.grid.specs.Judging.{countsHold, termsHold, Termed}
+use Rattle.slots.specs.Units.{slotsEach}
 use Rattle.slots.specs.Slots.{partOf, blockOf, isActive}
 use Rattle.slots.specs.Rules.{slotsHold, Active}
+use Rattle.slices.specs.declared.Refusal.{Refusal}
 
 -- a case as slices hold it: the record, the widths of columns and rows in metres, and the slots, sixteen to a block
 pub record Case : Type 0 where
@@ -82,6 +82,7 @@ contentsOf c =
     ∷ blaming 6 (faultOf (c .grid) (c .slots))
     ∷ []
 
+-- "Slices are judged 3, 7, 4, 5, 6"
 abbrev pub judgedOf : Case → Refusal
 judgedOf c = firstRefusal (shapeOf c ++ contentsOf c)
 

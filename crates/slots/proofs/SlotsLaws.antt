@@ -9,15 +9,15 @@ use lib.IntN.{ℤ, pos, negℤ}
 use lib.ListN.{length, getD, take, drop, length-drop}
 use lib.Seq.{take-all}
 use lib.Signed.{_≤ℤ_, _<ℤ_, leZ, leZ-yes, ltZ-yes}
+use Rattle.whole.specs.declared.ranges.Range.{Range}
 use Rattle.whole.specs.Whole.{In}
 use Rattle.whole.specs.Search.{every}
+use Rattle.whole.specs.Ranges.{between, inRange}
 use Rattle.whole.proofs.LinearLaws.{from1, signed, #}
 use Rattle.whole.proofs.OrderLaws.{≤ℤ-antisymm}
 use Rattle.whole.proofs.SearchLaws.{both, every-all}
 use Rattle.whole.proofs.WithinLaws.{range-in, within-at}
-use Rattle.whole.specs.declared.ranges.Range.{Range}
 use Rattle.slots.specs.Units.{slotsEach, mostPumpage}
-use Rattle.whole.specs.Ranges.{between, inRange}
 use Rattle.slots.specs.Ranges.{rangeOf, endsHold}
 use Rattle.slots.specs.Slots.{slotsAt, partOf, isActive, Ends}
 use Rattle.slots.specs.Rules.{allZero, rulesHold, slotsHold, Active}

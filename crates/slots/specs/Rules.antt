@@ -5,9 +5,9 @@ use lib.Dec.{T}
 use lib.IntN.{ℤ, pos, _+ℤ_}
 use lib.Signed.{_≤ℤ_, leZ, ltZ}
 use Rattle.whole.specs.Whole.{isZero}
+use Rattle.whole.specs.Ranges.{between, inRange, allWithin}
 use Rattle.slots.specs.declared.Block.{Block}
 use Rattle.slots.specs.Units.{slotsEach}
-use Rattle.whole.specs.Ranges.{between, inRange, allWithin}
 use Rattle.slots.specs.Ranges.{endsHold}
 use Rattle.slots.specs.Slots.{slotsAt, isActive, Ends}
 

@@ -1,10 +1,8 @@
 -- Whole numbers (document 01, "Units and ranges").
-use Prim.Native.Nat.{ℕ, _/_, _<_}
+use Prim.Native.Nat.{ℕ, _/_}
 use mathlib.Core.Bool.{Bool, false, cond}
 use lib.Dec.{eqb}
-use mathlib.Core.List.{List}
 use lib.IntN.{ℤ, pos, negsuc, negℤ, natAbs}
-use lib.ListN.{length, getD}
 use lib.Signed.{_≤ℤ_, leZ, quotZ}
 
 -- "Floor means toward minus infinity": z / d for a divisor d of 1 or more. Below zero -1 - a becomes -1 - a / d.
@@ -39,7 +37,3 @@ pub record In (lo hi z : ℤ) : Type 0 where
 -- at most m from 0
 abbrev pub Abs : ℕ → ℤ → Type 0
 Abs m z = In (negℤ (pos m)) (pos m) z
-
--- every element lies between lo and hi
-abbrev pub AllIn : ℤ → ℤ → List ℤ → Type 0
-AllIn lo hi zs = (k : ℕ) → k < length zs → In lo hi (getD zs k (pos 0))

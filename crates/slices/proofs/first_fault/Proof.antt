@@ -12,8 +12,8 @@ use Rattle.grid.specs.declared.Grid.{Grid}
 use Rattle.grid.specs.Place.{blocksOf, topOf}
 use Rattle.slots.specs.Slots.{partOf}
 use Rattle.slots.specs.Rules.{slotsHold}
-use Rattle.slices.specs.Slices.{faultOf}
 use Rattle.slots.proofs.SlotsLaws.{part-all}
+use Rattle.slices.specs.Slices.{faultOf}
 use Rattle.slices.proofs.first_fault.Statement.{statement}
 use Rattle.slices.proofs.first_fault.Tie as tie
 

@@ -1,8 +1,8 @@
 -- `judge` meets its contract: the first of two runs of refusals. Assumes nothing.
 use mathlib.Core.Path.{_≡_, sym, _∙_}
 use borrow.Author.Needs.{needs}
-use Rattle.slices.specs.declared.Refusal.{Refusal}
 use Rattle.grid.specs.Place.{Counted}
+use Rattle.slices.specs.declared.Refusal.{Refusal}
 use Rattle.slices.specs.Slices.{Case, caseOf, firstRefusal, shapeOf, contentsOf, judgedOf, Roomy}
 use Rattle.slices.proofs.SlicesLaws.{or-first, or-next, first-append, shape-stands}
 use Rattle.slices.proofs.judge.Statement.{statement}

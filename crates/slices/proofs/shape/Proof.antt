@@ -5,8 +5,8 @@ use borrow.Author.Needs.{needs}
 use borrow.Author.Tests.{not-true, not-false}
 use Rattle.whole.proofs.SearchLaws.{holds}
 use Rattle.grid.specs.Judging.{countsHold}
-use Rattle.slices.specs.Slices.{orElse, firstRefusal, shapeOf}
 use Rattle.grid.proofs.JudgingLaws.{counts-counted}
+use Rattle.slices.specs.Slices.{orElse, firstRefusal, shapeOf}
 use Rattle.slices.proofs.shape.Statement.{statement}
 use Rattle.slices.proofs.shape.Tie as tie
 

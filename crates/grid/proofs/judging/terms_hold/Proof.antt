@@ -3,9 +3,9 @@ use mathlib.Core.Path.{_≡_, sym, ap, _∙_}
 use borrow.Author.Needs.{needs}
 use borrow.Author.Tests.{le-leb, lt-leb}
 use lib.IntN.{pos}
+use Rattle.whole.specs.Ranges.{between, inRange}
 use Rattle.whole.proofs.RangeLaws.{read-back}
 use Rattle.grid.specs.Units.{mostDelta, mostStep, mostTolerance}
-use Rattle.whole.specs.Ranges.{between, inRange}
 use Rattle.grid.specs.Judging.{termsHold}
 use Rattle.grid.proofs.judging.terms_hold.Statement.{statement}
 use Rattle.grid.proofs.judging.terms_hold.Tie as tie

@@ -8,9 +8,9 @@ use borrow.Author.Tests.{not-true, not-false}
 use lib.IntN.{ℤ, pos}
 use lib.ListN.{getD}
 use Rattle.whole.specs.Search.{every}
+use Rattle.whole.specs.Ranges.{inRange}
 use Rattle.whole.proofs.RangeLaws.{read-back}
 use Rattle.whole.proofs.SearchLaws.{every-start, every-more, every-fails}
-use Rattle.whole.specs.Ranges.{inRange}
 use Rattle.slots.specs.Ranges.{rangeOf, endsHold}
 use Rattle.slots.proofs.ranges.ends_hold.Statement.{statement}
 use Rattle.slots.proofs.ranges.ends_hold.Tie as tie

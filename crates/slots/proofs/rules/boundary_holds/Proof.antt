@@ -4,8 +4,8 @@ use mathlib.Core.Bool.{_&&_}
 use lib.IntN.{ℤ, pos}
 use borrow.Author.Needs.{needs}
 use Rattle.whole.specs.Whole.{isZero}
-use Rattle.whole.proofs.RangeLaws.{read}
 use Rattle.whole.specs.Ranges.{between, inRange}
+use Rattle.whole.proofs.RangeLaws.{read}
 use Rattle.slots.specs.Rules.{isOpen, openHolds, boundaryHolds}
 use Rattle.slots.proofs.rules.boundary_holds.Statement.{statement}
 use Rattle.slots.proofs.rules.boundary_holds.Tie as tie

@@ -7,11 +7,11 @@ use native.Mathlib.Omega.{arith}
 use borrow.Author.Tests.{not-true, not-false}
 use lib.IntN.{ℤ, pos}
 use lib.ListN.{getD}
+use Rattle.whole.specs.declared.ranges.Range.{Range}
 use Rattle.whole.specs.Search.{every}
+use Rattle.whole.specs.Ranges.{inRange, allWithin}
 use Rattle.whole.proofs.RangeLaws.{read-back}
 use Rattle.whole.proofs.SearchLaws.{every-start, every-more, every-fails}
-use Rattle.whole.specs.declared.ranges.Range.{Range}
-use Rattle.whole.specs.Ranges.{inRange, allWithin}
 use Rattle.whole.proofs.ranges.all_within.Statement.{statement}
 use Rattle.whole.proofs.ranges.all_within.Tie as tie
 

@@ -2,8 +2,8 @@
 use mathlib.Core.Path.{sym, _∙_}
 use mir.Syntax.{w64}
 use mir.Val.{SFits}
-use Rattle.whole.proofs.RangeLaws.{le-bits}
 use Rattle.whole.specs.Ranges.{inRange}
+use Rattle.whole.proofs.RangeLaws.{le-bits}
 use Rattle.whole.proofs.ranges.in_range.Statement.{statement}
 use Rattle.whole.proofs.ranges.in_range.Tie as tie
 
