@@ -2,7 +2,7 @@
 -- the three that end in it, and a sum over blocks of what links bring is a sum over links.
 -- Assumes nothing.
 use mathlib.Core.Path.{_≡_, refl, sym, ap, _∙_, subst}
-use mathlib.Core.Logic.{_⊎_, inl, inr}
+use mathlib.Core.Logic.{_⊎_, inl, inr, _↔_}
 use mathlib.Core.Bool.{Bool, true, false, _&&_}
 use Prim.Native.Nat.{ℕ, zero, suc, _+_, _*_, _-_, _/_, _%_, _≤_, _<_}
 use native.Mathlib.Nat.{div-add-mod', mod-lt, div-lt-iff-lt-mul}
@@ -27,7 +27,7 @@ above-axis (suc (suc e)) h k = (e, refl)
 
 -- ---- block and place
 
-module _ (g : Grid) (counted : Counted g) where
+module _ (g : Grid) where
   pub place-block : (p : Place) → Inside g p → placeOf g (blockAt g p) ≡ p
   unfolding placeOf blockAt
   place-block p inside =
@@ -47,15 +47,15 @@ module _ (g : Grid) (counted : Counted g) where
   unfolding blockAt
   block-inside p inside = omega (arith, digits-lt (digits-lt (inside .layer) (inside .row)) (inside .column))
 
-  pub place-inside : (i : ℕ) → i < blocksOf g → Inside g (placeOf g i)
-  unfolding placeOf
-  place-inside i l = record { column = mod-lt i (counted .columns-some); row = mod-lt (i / g .columns) (counted .rows-some); layer = layer }
-    where
-      line : i / g .columns < g .layers * g .rows
-      line = div-lt-iff-lt-mul (counted .columns-some) .1 (omega arith)
+pub place-inside : (g : Grid) → Counted g → (i : ℕ) → i < blocksOf g → Inside g (placeOf g i)
+unfolding placeOf
+place-inside g counted i l = record { column = mod-lt i (counted .columns-some); row = mod-lt (i / g .columns) (counted .rows-some); layer = layer }
+  where
+    line : i / g .columns < g .layers * g .rows
+    line = div-lt-iff-lt-mul (counted .columns-some) .1 (omega arith)
 
-      layer : i / g .columns / g .rows < g .layers
-      layer = div-lt-iff-lt-mul (counted .rows-some) .1 line
+    layer : i / g .columns / g .rows < g .layers
+    layer = div-lt-iff-lt-mul (counted .rows-some) .1 line
 
 -- ---- one step along an axis
 
@@ -116,14 +116,14 @@ module _ (g : Grid) (counted : Counted g) (d i : ℕ) (l : i < blocksOf g) where
   next-inside-place t = moved-inside g (placeOf g i) d (place-inside g counted i l) t
 
   next-block : blockAt g (moved (placeOf g i) d) ≡ i + strideOf g d
-  next-block = moved-block g (placeOf g i) d ∙ ap (λ (k : ℕ). k + strideOf g d) (block-place g counted i)
+  next-block = moved-block g (placeOf g i) d ∙ ap (λ (k : ℕ). k + strideOf g d) (block-place g i)
 
   -- both ends are inside the grid
   pub next-inside : T (nextOf g d i) → i + strideOf g d < blocksOf g
-  next-inside t = rw (← next-block) (block-inside g counted (moved (placeOf g i) d) (next-inside-place t))
+  next-inside t = rw (← next-block) (block-inside g (moved (placeOf g i) d) (next-inside-place t))
 
   next-place : T (nextOf g d i) → placeOf g (i + strideOf g d) ≡ moved (placeOf g i) d
-  next-place t = rw (← next-block) (place-block g counted (moved (placeOf g i) d) (next-inside-place t))
+  next-place t = rw (← next-block) (place-block g (moved (placeOf g i) d) (next-inside-place t))
 
 moved-has : (p : Place) (d : ℕ) → T (hasPrevious (moved p d) d)
 unfolding moved hasPrevious
@@ -135,7 +135,7 @@ moved-has p (suc (suc d)) = lt→ltb 0 (p .layer + 1) (omega arith)
 module _ (g : Grid) (counted : Counted g) (d i : ℕ) (l : i < blocksOf g) where
   previous-block : T (previousOf g d i) → blockAt g (earlier (placeOf g i) d) + strideOf g d ≡ i
   unfolding previousOf
-  previous-block t = sym (moved-block g (earlier (placeOf g i) d) d) ∙ ap (blockAt g) (moved-earlier (placeOf g i) d t) ∙ block-place g counted i
+  previous-block t = sym (moved-block g (earlier (placeOf g i) d) d) ∙ ap (blockAt g) (moved-earlier (placeOf g i) d t) ∙ block-place g i
 
   pub previous-low : T (previousOf g d i) → strideOf g d ≤ i
   previous-low t = omega (arith, previous-block t)
@@ -147,7 +147,7 @@ module _ (g : Grid) (counted : Counted g) (d i : ℕ) (l : i < blocksOf g) where
   unfolding previousOf nextOf
   previous-next t =
       let inside = earlier-inside g (placeOf g i) (place-inside g counted i l) d in
-      rw (low-block t, place-block g counted (earlier (placeOf g i) d) inside) (earlier-next g (placeOf g i) (place-inside g counted i l) d t)
+      rw (low-block t, place-block g (earlier (placeOf g i) d) inside) (earlier-next g (placeOf g i) (place-inside g counted i l) d t)
 
   pub next-previous : strideOf g d ≤ i → T (nextOf g d (i - strideOf g d)) → T (previousOf g d i)
   unfolding previousOf
@@ -215,7 +215,7 @@ module _ (g : Grid) (counted : Counted g) (d i j : ℕ) (axis : d < 3) (l : i < 
   unfolding nextOf hasNext
   beside-link b = (
     lt→ltb (coordinateOf (placeOf g i) d + 1) (extentOf g d) (rw (← b .further) (reached (placeOf g j) d (place-inside g counted j m))),
-    sym (block-place g counted j) ∙ ap (blockAt g) (moves-on b) ∙ next-block g counted d i l,
+    sym (block-place g j) ∙ ap (blockAt g) (moves-on b) ∙ next-block g counted d i l,
   )
     where
       reached : (p : Place) (d : ℕ) → Inside g p → coordinateOf p d < extentOf g d
@@ -223,14 +223,21 @@ module _ (g : Grid) (counted : Counted g) (d i j : ℕ) (axis : d < 3) (l : i < 
       reached p (suc zero) h = h .row
       reached p (suc (suc d)) h = h .layer
 
--- The only neighbours of a block are those across its own three links and across the three that end in it.
-pub neighbours : (g : Grid) → Counted g → (d i j : ℕ) → d < 3 → i < blocksOf g → j < blocksOf g → Beside g d i j ⊎ Beside g d j i
-    → (T (nextOf g d i) × (j ≡ i + strideOf g d)) ⊎ (T (previousOf g d i) × (j ≡ i - strideOf g d))
-neighbours g counted d i j axis l m (inl b) = inl (beside-link g counted d i j axis l m b)
-neighbours g counted d i j axis l m (inr b) =
-    let h = beside-link g counted d j i axis m l b in
-    let e : j ≡ i - strideOf g d = omega (arith, h .1) in
-    inr (next-previous g counted d i l (omega (arith, h .1)) (rw (← e) (h .0)), e)
+-- The neighbours of a block are those across its own three links and across the three that end in it, and no others.
+pub neighbours : (g : Grid) → Counted g → (d i j : ℕ) → d < 3 → i < blocksOf g → j < blocksOf g
+    → (Beside g d i j ⊎ Beside g d j i) ↔ ((T (nextOf g d i) × (j ≡ i + strideOf g d)) ⊎ (T (previousOf g d i) × (j ≡ i - strideOf g d)))
+neighbours g counted d i j axis l m = (joined, touching)
+  where
+    joined : Beside g d i j ⊎ Beside g d j i → (T (nextOf g d i) × (j ≡ i + strideOf g d)) ⊎ (T (previousOf g d i) × (j ≡ i - strideOf g d))
+    joined (inl b) = inl (beside-link g counted d i j axis l m b)
+    joined (inr b) =
+        let h = beside-link g counted d j i axis m l b in
+        let e : j ≡ i - strideOf g d = omega (arith, h .1) in
+        inr (next-previous g counted d i l (omega (arith, h .1)) (rw (← e) (h .0)), e)
+
+    touching : (T (nextOf g d i) × (j ≡ i + strideOf g d)) ⊎ (T (previousOf g d i) × (j ≡ i - strideOf g d)) → Beside g d i j ⊎ Beside g d j i
+    touching (inl h) = inl (link-beside g counted d i j axis l m (h .0) (h .1))
+    touching (inr h) = inr (link-beside g counted d j i axis m l (rw (h .1) (previous-next g counted d i l (h .0))) (omega (arith, h .1, previous-low g counted d i l (h .0))))
 
 -- ---- from blocks to links: what blocks get by the links that lead on from them and by those that end in them, summed over the blocks, is what links bring, summed over the links
 previous-is : (g : Grid) → Counted g → (d i : ℕ) → i < blocksOf g → (y : ℕ → ℤ)

@@ -30,12 +30,13 @@ placeOf g i = record { column = i % g .columns; row = i / g .columns % g .rows; 
 unfoldable pub blockAt : Grid → Place → ℕ
 blockAt g p = (p .layer * g .rows + p .row) * g .columns + p .column
 
+-- a place of the grid
 pub record Inside (g : Grid) (p : Place) : Type 0 where
   pub column : p .column < g .columns
   pub row : p .row < g .rows
   pub layer : p .layer < g .layers
 
--- "Top layer" is the layer with number `layers`.
+-- the top layer, which document 01 speaks of in "0 in the top layer", is the one with number `layers`
 unfoldable pub topOf : Grid → ℕ → Bool
 topOf g i = eqb (placeOf g i .layer + 1) (g .layers)
 
@@ -57,6 +58,7 @@ strideOf g zero = 1
 strideOf g (suc zero) = g .columns
 strideOf g (suc (suc d)) = g .columns * g .rows
 
+-- a block follows, or comes before, along the axis
 unfoldable pub hasNext : Grid → Place → ℕ → Bool
 hasNext g p d = ltb (coordinateOf p d + 1) (extentOf g d)
 
@@ -71,6 +73,7 @@ nextOf g d i = hasNext g (placeOf g i) d
 unfoldable pub previousOf : Grid → ℕ → ℕ → Bool
 previousOf g d i = hasPrevious (placeOf g i) d
 
+-- the block, where the link is there
 abbrev pub there : Bool → ℕ → Neighbour
 there true i = At i
 there false i = Outside

@@ -1,5 +1,5 @@
-// The grid of a case: its record, its blocks and links, a block's sixteen slots, and what slices are refused with before any
-// physics, 3, 7, 4, 5 and 6 (document 01, "Units and ranges" and "Refusal numbers").
+// The grid of a case: its record with what that is refused with, 3 and 4, and where its blocks lie and which links join them
+// (document 01, "Units and ranges" and "Refusal numbers").
 pub mod judging;
 pub mod place;
 pub mod units;

@@ -53,7 +53,7 @@ pub fn place_of(g: Grid, block: usize) -> Place
     }
 }
 
-// Whether a block lies in the top layer. Inner: the counts are in range.
+// Whether a block lies in the top layer. Inner: the counts are in range and the block is inside.
 pub fn is_top(g: Grid, block: usize) -> bool
     requires { ⌜ Counted g ⌝ }
     requires { ⌜ block < blocksOf g ⌝ }

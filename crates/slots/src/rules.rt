@@ -23,6 +23,7 @@ use whole::ranges::Range;
 use whole::ranges::all_within;
 use whole::ranges::in_range;
 
+// Both ends 0.
 const ZERO: Range = Range { lower: 0, upper: 0 };
 
 // The kinds that exchange water: 1 river, 2 sea.

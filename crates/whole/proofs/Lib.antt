@@ -8,3 +8,4 @@ pub mod RangeLaws
 pub mod SumLaws
 pub mod SearchLaws
 pub mod WithinLaws
+mod Examples

@@ -14,6 +14,7 @@ floorOf (negsuc a) d = negsuc (a / natAbs d)
 abbrev pub cutOf : ℤ → ℤ → ℤ
 cutOf z d = quotZ z d
 
+-- z is 0
 abbrev pub isZero : ℤ → Bool
 isZero (pos a) = eqb a 0
 isZero (negsuc a) = false

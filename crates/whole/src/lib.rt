@@ -27,6 +27,7 @@ pub fn cut_div(a: i64, d: i64) -> i64
     a / d
 }
 
+// Whether a number is 0.
 pub fn is_zero(a: i64) -> bool
     ensures { λ r. ⌜ r ≡ isZero a ⌝ }
 {

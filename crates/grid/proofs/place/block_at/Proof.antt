@@ -15,7 +15,7 @@ line s = omega (arith, digits-lt (s .pre .1 .layer) (s .pre .1 .row), mul-le-mul
 
 whole : (s : tie.Start) → (s .args .place .layer * s .args .g .rows + s .args .place .row) * s .args .g .columns + s .args .place .column < 512
 unfolding blockAt
-whole s = omega (arith, block-inside (s .args .g) (s .pre .0) (s .args .place) (s .pre .1), s .pre .0 .blocks-most)
+whole s = omega (arith, block-inside (s .args .g) (s .args .place) (s .pre .1), s .pre .0 .blocks-most)
 
 mul-result : tie.Need-mul-result
 mul-result c = omega (arith, line (c .before .before))
