@@ -125,6 +125,16 @@ module _ (g : Grid) (counted : Counted g) (d i : ℕ) (l : i < blocksOf g) where
   next-place : T (nextOf g d i) → placeOf g (i + strideOf g d) ≡ moved (placeOf g i) d
   next-place t = rw (← next-block) (place-block g (moved (placeOf g i) d) (next-inside-place t))
 
+-- what a block's place tells of its links
+module _ (g : Grid) (d i : ℕ) (p : Place) (q : Bool) (at : p ≡ placeOf g i) where
+  pub next-told : q ≡ hasNext g p d → nextOf g d i ≡ q
+  unfolding nextOf
+  next-told e = rw (← at, e)
+
+  pub previous-told : q ≡ hasPrevious p d → previousOf g d i ≡ q
+  unfolding previousOf
+  previous-told e = rw (← at, e)
+
 moved-has : (p : Place) (d : ℕ) → T (hasPrevious (moved p d) d)
 unfolding moved hasPrevious
 moved-has p zero = lt→ltb 0 (p .column + 1) (omega arith)

@@ -22,3 +22,13 @@ mostStep = 36525
 -- "tolerance, litres/day | 0..=1,000,000,000"
 abbrev pub mostTolerance : ℕ
 mostTolerance = 1000000000
+
+-- the three axes along which a block is linked to the next one
+abbrev pub nextColumn : ℕ
+nextColumn = 0
+
+abbrev pub nextRow : ℕ
+nextRow = 1
+
+abbrev pub above : ℕ
+above = 2

@@ -12,3 +12,10 @@ pub const MOST_DELTA: i64 = 100;
 pub const MOST_STEP: i64 = 36_525;
 // Litres a day.
 pub const MOST_TOLERANCE: i64 = 1_000_000_000;
+
+// The three axes along which a block is linked to the next one.
+pub const NEXT_COLUMN: usize = 0;
+
+pub const NEXT_ROW: usize = 1;
+
+pub const ABOVE: usize = 2;

@@ -1,8 +1,8 @@
 -- Laws of judging: the order of refusals, and what a case that is not refused gives. Assumes nothing.
-use mathlib.Core.Path.{_≡_, refl}
+use mathlib.Core.Path.{_≡_, refl, sym, _∙_}
 use mathlib.Core.Bool.{Bool, true, false, not, cond, _&&_}
 use mathlib.Core.List.{List, [], _∷_, _++_}
-use Prim.Native.Nat.{ℕ, zero, suc, _*_, _<_}
+use Prim.Native.Nat.{ℕ, zero, suc, _*_, _<_, _≤_}
 use native.Mathlib.Decide.{ℕ-discrete}
 use native.Mathlib.Omega.{arith}
 use borrow.Author.Tests.{eq-eqb, ne-eqb, not-false}
@@ -22,7 +22,7 @@ use Rattle.slots.specs.Slots.{partOf}
 use Rattle.slots.specs.Rules.{slotsHold}
 use Rattle.slots.proofs.SlotsLaws.{slots-active, slots-inactive}
 use Rattle.slices.specs.declared.Refusal.{Refusal}
-use Rattle.slices.specs.Slices.{Case, unless, blaming, orElse, firstRefusal, roomHolds, widthsHold, faultOf, shapeOf, contentsOf, judgedOf, Roomy, Judged, mostWidth}
+use Rattle.slices.specs.Slices.{Case, none, refusal, unless, blaming, orElse, firstRefusal, roomHolds, widthsHold, faultOf, shapeOf, contentsOf, judgedOf, Roomy, Judged, mostWidth}
 
 -- ---- the order of refusals
 
@@ -46,6 +46,23 @@ first-append (x ∷ xs) ys = rw (first-append xs ys) (regroup x (firstRefusal xs
         go : (b : Bool) → eqb (x .number) 0 ≡ b → cond b (orElse y z) x ≡ cond (eqb (cond b y x .number) 0) z (cond b y x)
         go true e = refl
         go false e = rw e
+
+-- judged run by run: a refusal of the first run stays, and where it refuses nothing the second decides
+module _ (xs ys : List Refusal) (r : Refusal) (told : r ≡ firstRefusal xs) where
+  pub first-stays : (r .number ≡ 0 → ⊥) → r ≡ firstRefusal (xs ++ ys)
+  first-stays h = sym (first-append xs ys ∙ rw (← told) (or-first r (firstRefusal ys) h))
+
+  pub first-goes-on : (q : Refusal) → r .number ≡ 0 → q ≡ firstRefusal ys → q ≡ firstRefusal (xs ++ ys)
+  first-goes-on q h e = sym (first-append xs ys ∙ rw (← told, ← e) (or-next r q h))
+
+-- a block that is blamed, and none
+pub blames-some : (n b : ℕ) (y : Refusal) → (n ≡ 0 → ⊥) → 0 < b → refusal n b ≡ orElse (blaming n b) y
+blames-some n zero y h l = absurd (omega arith)
+blames-some n (suc b) y h l = sym (or-first (refusal n (suc b)) y h)
+
+pub blames-on : (n b : ℕ) (y : Refusal) → b ≤ 0 → y ≡ orElse (blaming n b) y
+blames-on n zero y l = sym (or-next none y refl)
+blames-on n (suc b) y l = absurd (omega arith)
 
 -- neither run refuses
 pub or-none : (x y : Refusal) → orElse x y .number ≡ 0 → (x .number ≡ 0) × (y .number ≡ 0)

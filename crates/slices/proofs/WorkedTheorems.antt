@@ -13,7 +13,7 @@ use Rattle.grid.specs.Judging.{countsHold, termsHold}
 use Rattle.slots.specs.Ranges.{rangeOf, endsHold}
 use Rattle.slots.specs.Slots.{slotsAt}
 use Rattle.slots.specs.Rules.{allZero, screenWithin, screensHold, layerHolds, boundaryHolds, rulesHold, slotsHold}
-use Rattle.slices.specs.Slices.{caseOf, none, refusal, orElse, firstRefusal, roomHolds, widthsHold, faultOf, shapeOf, contentsOf, judgedOf}
+use Rattle.slices.specs.Slices.{Case, caseOf, none, refusal, orElse, firstRefusal, roomHolds, widthsHold, faultOf, shapeOf, contentsOf, judgedOf}
 
 abbrev pub sized : ℕ → ℕ → ℕ → Grid
 sized columns rows layers = record { columns = columns; rows = rows; layers = layers; delta = pos 40; flag = 0; step = pos 30; tolerance = pos 5 }
@@ -28,13 +28,15 @@ pub blocks-513-refused : (columns rows slots : List ℤ) → judgedOf (caseOf (s
 unfolding orElse firstRefusal countsHold shapeOf contentsOf
 blocks-513-refused columns rows slots = refl
 
--- the case that document 01 prints, two active blocks, is refused with none of the five: what `Judged` asks can be met
-pub printed-case-passes :
-    judgedOf
-    (caseOf (sized 2 1 1) (pos 100 ∷ pos 100 ∷ []) (pos 100 ∷ [])
+-- the case that document 01 prints: two active blocks
+abbrev pub printedCase : Case
+printedCase =
+    caseOf (sized 2 1 1) (pos 100 ∷ pos 100 ∷ []) (pos 100 ∷ [])
     (pos 10000 ∷ negℤ (pos 204800) ∷ pos 245760 ∷ pos 200 ∷ pos 0 ∷ pos 0 ∷ pos 0 ∷ pos 0 ∷ pos 0 ∷ pos 5 ∷ pos 0 ∷ pos 0 ∷ pos 8192 ∷ pos 0 ∷ pos 8192 ∷ pos 0
     ∷ pos 10000 ∷ negℤ (pos 204800) ∷ pos 245760 ∷ pos 200 ∷ pos 0 ∷ pos 0 ∷ pos 150 ∷ negℤ (pos 4096) ∷ pos 4096 ∷ pos 0 ∷ pos 0 ∷ pos 0 ∷ pos 8191 ∷ pos 0 ∷ pos 8191 ∷ pos 0
-    ∷ []))
-    ≡ none
+    ∷ [])
+
+-- it is refused with none of the five: what `Judged` asks can be met
+pub printed-case-passes : judgedOf printedCase ≡ none
 unfolding every firstOf inRange allWithin placeOf topOf rangeOf endsHold slotsAt screenWithin screensHold layerHolds boundaryHolds rulesHold allZero slotsHold countsHold termsHold orElse firstRefusal roomHolds widthsHold faultOf shapeOf contentsOf
 printed-case-passes = refl

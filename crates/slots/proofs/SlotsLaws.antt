@@ -1,25 +1,24 @@
 -- Laws of a block's slots: the table's rule, and what slots that stand tell of each slot. Assumes nothing.
-use mathlib.Core.Path.{_≡_}
+use mathlib.Core.Path.{_≡_, sym, ap, _∙_}
 use mathlib.Core.Bool.{Bool, true, false, not, cond, _&&_}
 use mathlib.Core.List.{List}
-use Prim.Native.Nat.{ℕ, _*_, _-_, _<_}
+use Prim.Native.Nat.{ℕ, _+_, _*_, _-_, _<_}
 use native.Mathlib.Omega.{arith}
 use lib.Dec.{T}
 use lib.IntN.{ℤ, pos, negℤ}
 use lib.ListN.{length, getD, take, drop, length-drop}
-use lib.Seq.{take-all}
-use lib.Signed.{_≤ℤ_, _<ℤ_, leZ, leZ-yes, ltZ-yes}
+use lib.Seq.{take-all, getD-drop}
+use lib.Signed.{_≤ℤ_, leZ, leZ-yes, ltZ-yes}
 use Rattle.whole.specs.declared.ranges.Range.{Range}
 use Rattle.whole.specs.Whole.{In}
 use Rattle.whole.specs.Search.{every}
 use Rattle.whole.specs.Ranges.{between, inRange}
-use Rattle.whole.proofs.LinearLaws.{from1, signed, #}
-use Rattle.whole.proofs.OrderLaws.{≤ℤ-antisymm}
+use Rattle.whole.proofs.OrderLaws.{≤ℤ-antisymm, one-least}
 use Rattle.whole.proofs.SearchLaws.{both, every-all}
 use Rattle.whole.proofs.WithinLaws.{range-in, within-at}
 use Rattle.slots.specs.Units.{slotsEach, mostPumpage}
 use Rattle.slots.specs.Ranges.{rangeOf, endsHold}
-use Rattle.slots.specs.Slots.{slotsAt, partOf, isActive, Ends}
+use Rattle.slots.specs.Slots.{slotsAt, partOf, blockOf, isActive, Ends}
 use Rattle.slots.specs.Rules.{allZero, rulesHold, slotsHold, Active}
 
 -- ---- the table's rule: its ends are the right way round, and none is further from 0 than the greatest pumpage
@@ -44,6 +43,14 @@ table-ruled slot l =
 
 pub part-all : (slots : List ℤ) (i : ℕ) → take (length slots - slotsEach * i) (drop (slotsEach * i) slots) ≡ partOf slots i
 part-all slots i = take-all (length slots - slotsEach * i) (drop (slotsEach * i) slots) (simp length-drop (omega arith))
+
+-- K stands first
+pub first-slot : (slots : List ℤ) (i : ℕ) → getD slots (slotsEach * i) (pos 0) ≡ blockOf slots i .k
+unfolding slotsAt
+first-slot slots i = ap (λ (k : ℕ). getD slots k (pos 0)) (same (slotsEach * i)) ∙ sym (getD-drop (slotsEach * i) slots 0 (pos 0))
+  where
+    same : (n : ℕ) → n ≡ n + 0
+    same n = omega arith
 
 -- ---- what slots that stand tell
 
@@ -86,10 +93,7 @@ module _ (s : List ℤ) (top : Bool) (t : T (slotsHold s top)) where
   unfolding slotsHold
   slots-active a =
       let h = both (endsHold s) (rulesHold (slotsAt s) top) (cond-true (isActive (slotsAt s)) (endsHold s && rulesHold (slotsAt s) top) (allZero s) t a) in
-      record { ends = ends-of s (h .0); k-some = some (slotsAt s .k) (ltZ-yes a); rules = h .1 }
-    where
-      some : (z : ℤ) → pos 0 <ℤ z → pos 1 ≤ℤ z
-      some z h = from1 h (search (signed, # z) depth 30) (omega arith)
+      record { ends = ends-of s (h .0); k-some = one-least (ltZ-yes a); rules = h .1 }
 
   pub slots-inactive : T (not (isActive (slotsAt s))) → (slot : ℕ) → slot < slotsEach → getD s slot (pos 0) ≡ pos 0
   unfolding slotsHold allZero

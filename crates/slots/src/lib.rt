@@ -7,7 +7,7 @@ pub mod units;
 ghost use mathlib.Core.Path.{_≡_};
 ghost use Prim.Native.Nat.{_+_, _*_, _≤_};
 ghost use lib.ListN.{length};
-ghost use Rattle.slots.specs.Slots.{slotsAt, blockOf};
+ghost use Rattle.slots.specs.Slots.{slotsAt, blockOf, isActive};
 use units::SLOTS;
 
 // A block's slots. Units: ticks for base, thickness, screens, level and heads; mm/day for k; per mille for porosity; 10^-6 a day
@@ -55,6 +55,15 @@ pub fn slots_at(part: &[i64]) -> Block
         new_fresh: part[14],
         new_salt: part[15],
     }
+}
+
+// Whether a block of the lent slots, counted from 0, is active: "0 is inactive", of K. Inner: the slots reach so far.
+pub fn is_active(slots: &[i64], block: usize) -> bool
+    requires { ⌜ 16 * block + 16 ≤ length (now slots) ⌝ }
+    ensures { λ r. ⌜ r ≡ isActive (blockOf (now (slots .entry)) block) ⌝ }
+{
+    let at = SLOTS * block;
+    0 < slots[at]
 }
 
 // A block of the lent slots, counted from 0. Inner: the slots reach so far.

@@ -9,6 +9,7 @@ ghost use Rattle.slots.specs.Rules.{
   screenWithin,
   screensHold,
   layerHolds,
+  isOpen,
   openHolds,
   boundaryHolds,
   rulesHold,
@@ -100,13 +101,21 @@ fn open_holds(kind: i64, level: i64, leakance: i64) -> bool
     false
 }
 
+// Whether a block exchanges water with a river or a sea. Inner: the slots are within their ends.
+pub fn is_open(block: Block) -> bool
+    requires { ⌜ Ends block ⌝ }
+    ensures { λ r. ⌜ r ≡ isOpen block ⌝ }
+{
+    in_range(OPEN_KINDS, block.kind)
+}
+
 // "Kinds 1 and 2 occur only in the top layer." "Kinds other than 1 and 2 have zero in their two boundary slots."
 // Inner: the slots are within their ends.
 pub fn boundary_holds(block: Block, top: bool) -> bool
     requires { ⌜ Ends block ⌝ }
     ensures { λ r. ⌜ r ≡ boundaryHolds block top ⌝ }
 {
-    if in_range(OPEN_KINDS, block.kind) {
+    if is_open(block) {
         if top {
             return open_holds(block.kind, block.level, block.boundary_leakance);
         }

@@ -1,7 +1,7 @@
 -- Division by a positive integer: rounded down (`floorOf`), and toward zero (`cutOf`, which is the machine's `/`).
 -- `floor-low` and `floor-high` bound the quotient, `floor-unique` says that nothing else is so bounded, and the other laws follow from these by `linear`.
 -- Assumes nothing.
-use mathlib.Core.Path.{_≡_, refl, sym, ap, _∙_}
+use mathlib.Core.Path.{_≡_, refl, sym, ap, _∙_, subst}
 use mathlib.Core.Logic.{⊎-elim}
 use Prim.Native.Nat.{ℕ, zero, suc, _/_, _<_}
 use native.Mathlib.Nat.{mul-div-le, lt-mul-div-succ, zero-div}
@@ -57,6 +57,9 @@ floor-< z d q h g = from1 (quot-le d (floorOf z d) (q -ℤ pos 1) z z h (floor-l
 
 pub floor-≥ : (z d q : ℤ) → pos 1 ≤ℤ d → (d *ℤ q) ≤ℤ z → q ≤ℤ floorOf z d
 floor-≥ z d q h l = quot-le d q (floorOf z d) z z h l (linear (search (signed, # z) depth 30) (omega arith)) (floor-high z d h)
+
+pub floor-≤ : (z d q : ℤ) → pos 1 ≤ℤ d → z ≤ℤ (q *ℤ d) → floorOf z d ≤ℤ q
+floor-≤ z d q h l = subst (λ x. floorOf z d ≤ℤ x) (floor-mul q d h) (floor-mono z (q *ℤ d) d h l)
 
 -- ---- toward zero
 pub cut-floor : (z d : ℤ) → pos 0 ≤ℤ z → pos 1 ≤ℤ d → cutOf z d ≡ floorOf z d

@@ -25,6 +25,9 @@ pub ≤ℤ-antisymm : {a b : ℤ} → a ≤ℤ b → b ≤ℤ a → a ≡ b
 pub <ℤ-≤ℤ : {a b : ℤ} → a <ℤ b → a ≤ℤ b
 <ℤ-≤ℤ {a} {b} = linear (search (signed, # a, # b) depth 30) (omega arith)
 
+pub one-least : {z : ℤ} → pos 0 <ℤ z → pos 1 ≤ℤ z
+one-least {z} = linear (search (signed, # z) depth 30) (omega arith)
+
 nat-total : (m n : ℕ) → (m ≤ n) ⊎ (n < m)
 nat-total zero n = inl (omega arith)
 nat-total (suc m) zero = inr (omega arith)

@@ -4,14 +4,15 @@
 --     fits (search ranges depth 20) tt       a sum, a difference, a product or a quotient fits an i64
 --     exact (search ranges depth 20)         a result, as the machine reads it back, is the formula
 --     within (search ranges depth 20) tt tt  it lies in a range
+--     no-less (search ranges depth 20) tt      it is at least a number
 -- Assumes nothing.
-use mathlib.Core.Path.{_≡_, refl, sym, ap₂, _∙_, subst}
+use mathlib.Core.Path.{_≡_, refl, sym, ap, ap₂, _∙_, subst}
 use mathlib.Core.Bool.{Bool, true, false, not, cond, _&&_}
 use Prim.Native.Nat.{ℕ, suc, _-_, _^_, _≤_, _<_}
 use native.Mathlib.Nat.{mod-le, lt-of-le-of-lt}
 use native.Mathlib.Omega.{arith}
 use lib.Dec.{T, ltb, ltb→lt}
-use lib.IntN.{ℤ, pos, negsuc, _+ℤ_, _-ℤ_, _*ℤ_, natAbs}
+use lib.IntN.{ℤ, pos, negsuc, negℤ, _+ℤ_, _-ℤ_, _*ℤ_, natAbs}
 use lib.Signed.{_≤ℤ_, _<ℤ_, leZ, ltZ, leZ-yes, ≤ℤ-refl, mag, remZ, ltZ-yes, ltZ-no, nonNeg, yes-nonNeg, pos-natAbs}
 use mir.Syntax.{w64}
 use mir.Val.{SFits, Fits, toZ, ofZ}
@@ -68,6 +69,23 @@ is-by e b = e ∙ exact b
 
 abbrev pub b-is : {z y : ℤ} → z ≡ y → Bounds y → Bounds z
 b-is e b = bounds (val b) (lo b) (hi b) (is-by e b) (low b) (high b)
+
+-- ---- the number mirrored at 0
+neg-low : (a b : ℤ) → a ≤ℤ b → negℤ b ≤ℤ negℤ a
+neg-low a b = linear (search (signed, # a, # b) depth 30) (omega arith)
+
+module _ (x : ℤ) (a : Bounds x) where
+  pub neg-e : negℤ x ≡ negℤ (val a)
+  neg-e = ap negℤ (exact a)
+
+  pub neg-l : negℤ (hi a) ≤ℤ negℤ (val a)
+  neg-l = neg-low (val a) (hi a) (high a)
+
+  pub neg-h : negℤ (val a) ≤ℤ negℤ (lo a)
+  neg-h = neg-low (lo a) (val a) (low a)
+
+  abbrev pub b-neg : Bounds (negℤ x)
+  b-neg = bounds (negℤ (val a)) (negℤ (hi a)) (negℤ (lo a)) neg-e neg-l neg-h
 
 -- ---- sums, differences, products, the lesser and the greater of two
 add-low : (a b c d : ℤ) → a ≤ℤ c → b ≤ℤ d → (a +ℤ b) ≤ℤ (c +ℤ d)
@@ -152,6 +170,10 @@ fits {z} b t = subst (SFits w64) (sym (exact b)) (in-fits (lo b) (hi b) (val b) 
 pub within : {l h z : ℤ} (b : Bounds z) → T (leZ l (lo b)) → T (leZ (hi b) h) → In l h z
 within {l} {h} {z} b s t = subst (In l h) (sym (exact b)) (record { low = ≤ℤ-trans (leZ-yes s) (low b); high = ≤ℤ-trans (high b) (leZ-yes t) })
 
+-- one end alone
+pub no-less : {l z : ℤ} (b : Bounds z) → T (leZ l (lo b)) → l ≤ℤ z
+no-less {l} {z} b s = subst (λ y. l ≤ℤ y) (sym (exact b)) (≤ℤ-trans (leZ-yes s) (low b))
+
 -- what lies in such a range is read back as it is
 pub read : {l h z : ℤ} → In l h z → T (ok l h) → toZ w64 (ofZ w64 z) ≡ z
 read {l} {h} {z} i t = toZ-ofZ w64 z (fits (leaf i) t)
@@ -159,6 +181,10 @@ read {l} {h} {z} i t = toZ-ofZ w64 z (fits (leaf i) t)
 -- and so is what a read through a reference hands over, with its size
 pub read-back : (z : ℤ) → mag z < 2 ^ 63 → toZ w64 (ofZ w64 z) ≡ z
 read-back z h = toZ-ofZ w64 z (record { sfits = h })
+
+-- what a call answers, read back, is what it ensures
+pub answer : {z v : ℤ} → mag z < 2 ^ 63 → z ≡ v → toZ w64 (ofZ w64 z) ≡ v
+answer {z} h e = read-back z h ∙ e
 
 -- any i64, and one that is at least l
 sfits-in : (z : ℤ) → SFits w64 z → (negsuc (2 ^ 63 - 1) ≤ℤ z) × (z ≤ℤ pos (2 ^ 63 - 1))
@@ -267,7 +293,7 @@ module _ (x y : ℤ) (a : Bounds x) (b : Bounds y) where
   abbrev pub b-rem : Bounds (remZ x y)
   b-rem = bounds (remZ (val a) (val b)) (minℤ (lo a) (pos 0)) (maxℤ (hi a) (pos 0)) rem-e rem-l rem-h
 
-pub ruleset ranges = (b-in, b-pos, b-negsuc, b-add, b-sub, b-mul, b-cut, b-floor, b-rem, b-min, b-max, b-machine)
+pub ruleset ranges = (b-in, b-pos, b-negsuc, b-neg, b-add, b-sub, b-mul, b-cut, b-floor, b-rem, b-min, b-max, b-machine)
 
 -- with unsigned numbers that an `n ≤ m` in reach bounds
 pub ruleset unsigned = (ranges, b-natural, b-cast)
@@ -312,6 +338,10 @@ module _ {x y : ℤ} (f : SFits w64 x) (g : SFits w64 y) where
 
   pub le-no : leZ (toZ w64 (ofZ w64 x)) (toZ w64 (ofZ w64 y)) ≡ false → y <ℤ x
   le-no e = le-false x y (sym le-bits ∙ e)
+
+-- whether a number of a known range is above 0, as the machine asks it
+pub positive : {l h z : ℤ} {b : Bool} → In l h z → T (ok l h) → ltZ (pos 0) (toZ w64 (ofZ w64 z)) ≡ b → ltZ (pos 0) z ≡ b
+positive i t e = sym (ap (ltZ (pos 0)) (read i t)) ∙ e
 
 -- ---- a fact of a term's value is one of the term, and the other way round
 pub on : {z : ℤ} (F : ℤ → Type 0) (b : Bounds z) → F (val b) → F z

@@ -1,12 +1,12 @@
 -- `contents` meets its contract: each return is the first refusal of the definition's list. Assumes nothing.
-use mathlib.Core.Path.{_≡_, refl, sym, _∙_}
+use mathlib.Core.Path.{_≡_, sym, _∙_}
 use mathlib.Core.Bool.{true}
-use Prim.Native.Nat.{ℕ, zero, suc, _<_, _≤_}
 use native.Mathlib.Omega.{arith}
 use borrow.Author.Needs.{needs}
 use borrow.Author.Tests.{not-true, not-false}
 use Rattle.grid.specs.Judging.{termsHold}
-use Rattle.slices.specs.Slices.{none, refusal, blaming, widthsHold, orElse, firstRefusal, contentsOf}
+use Rattle.slices.specs.Slices.{none, widthsHold, orElse, firstRefusal, contentsOf}
+use Rattle.slices.proofs.SlicesLaws.{blames-some, blames-on}
 use Rattle.slices.proofs.contents.Statement.{statement}
 use Rattle.slices.proofs.contents.Tie as tie
 
@@ -15,17 +15,6 @@ terms c = sym (c .before .terms-hold .ensures) ∙ not-false (c .before .terms-h
 
 widths : (c : tie.Else2) → widthsHold (c .before .before .before .before .args .g) (c .before .before .before .before .args .columns .now) (c .before .before .before .before .args .rows .now) ≡ true
 widths c = sym (c .before .widths-hold .ensures) ∙ not-false (c .before .widths-hold .result) (c .if2 .left)
-
--- the last of the list
-at-fault : (b : ℕ) → 0 < b → refusal 6 b ≡ orElse (blaming 6 b) none
-unfolding orElse
-at-fault zero h = absurd (omega arith)
-at-fault (suc b) h = refl
-
-faultless : (b : ℕ) → b ≤ 0 → none ≡ orElse (blaming 6 b) none
-unfolding orElse
-faultless zero h = refl
-faultless (suc b) h = absurd (omega arith)
 
 returns : tie.Need-returns
 unfolding contentsOf firstRefusal orElse
@@ -39,13 +28,13 @@ returns-3 : tie.Need-returns-3
 unfolding contentsOf firstRefusal orElse
 returns-3 c =
     let w = c .before .before in
-    rw (terms (w .before .before), widths w, ← c .before .first-fault .ensures) (at-fault (c .before .first-fault .result) (c .if3 .taken))
+    rw (terms (w .before .before), widths w, ← c .before .first-fault .ensures) (blames-some 6 (c .before .first-fault .result) none (omega arith) (c .if3 .taken))
 
 returns-4 : tie.Need-returns-4
 unfolding contentsOf firstRefusal orElse
 returns-4 c =
     let w = c .before .before in
-    rw (terms (w .before .before), widths w, ← c .before .first-fault .ensures) (faultless (c .before .first-fault .result) (c .if3 .left))
+    rw (terms (w .before .before), widths w, ← c .before .first-fault .ensures) (blames-on 6 (c .before .first-fault .result) none (c .if3 .left))
 
 pub contents-spec : {M : Type 1} → statement M
 contents-spec =

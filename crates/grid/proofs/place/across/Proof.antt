@@ -7,21 +7,11 @@ use native.Mathlib.Omega.{arith}
 use borrow.Author.Needs.{needs}
 use Rattle.whole.proofs.SearchLaws.{holds}
 use Rattle.grid.specs.declared.Grid.{Grid}
-use Rattle.grid.specs.declared.place.Place.{Place}
 use Rattle.grid.specs.declared.place.Neighbour.the-variants.{At, Outside}
-use Rattle.grid.specs.Place.{strideOf, placeOf, hasNext, hasPrevious, nextOf, previousOf, neighbourOf}
-use Rattle.grid.proofs.PlaceLaws.{next-inside, previous-low}
+use Rattle.grid.specs.Place.{strideOf, nextOf, previousOf, neighbourOf}
+use Rattle.grid.proofs.PlaceLaws.{next-inside, next-told, previous-low, previous-told}
 use Rattle.grid.proofs.place.across.Statement.{statement}
 use Rattle.grid.proofs.place.across.Tie as tie
-
-module _ (g : Grid) (d i : ℕ) (p : Place) (q : Bool) (at : p ≡ placeOf g i) where
-  next-is : q ≡ hasNext g p d → nextOf g d i ≡ q
-  unfolding nextOf
-  next-is e = rw (← at, e)
-
-  previous-is : q ≡ hasPrevious p d → previousOf g d i ≡ q
-  unfolding previousOf
-  previous-is e = rw (← at, e)
 
 module _ (g : Grid) (d i s : ℕ) (on : Bool) (far : s ≡ strideOf g d) where
   leads : on ≡ true → nextOf g d i ≡ true → At (i + s) ≡ neighbourOf g d i on
@@ -45,12 +35,12 @@ module _ (g : Grid) (d i : ℕ) (on : Bool) where
 leads-on : (c : tie.After-has-next) → nextOf (c .before .before .before .args .g) (c .before .before .before .args .axis) (c .before .before .before .args .block) ≡ c .has-next .result
 leads-on c =
     let p = c .before .before in
-    next-is (p .before .args .g) (p .before .args .axis) (p .before .args .block) (p .place-of .result) (c .has-next .result) (p .place-of .ensures) (c .has-next .ensures)
+    next-told (p .before .args .g) (p .before .args .axis) (p .before .args .block) (p .place-of .result) (c .has-next .result) (p .place-of .ensures) (c .has-next .ensures)
 
 ends-here : (c : tie.After-has-previous) → previousOf (c .before .before .before .args .g) (c .before .before .before .args .axis) (c .before .before .before .args .block) ≡ c .has-previous .result
 ends-here c =
     let p = c .before .before in
-    previous-is (p .before .args .g) (p .before .args .axis) (p .before .args .block) (p .place-of .result) (c .has-previous .result) (p .place-of .ensures) (c .has-previous .ensures)
+    previous-told (p .before .args .g) (p .before .args .axis) (p .before .args .block) (p .place-of .result) (c .has-previous .result) (p .place-of .ensures) (c .has-previous .ensures)
 
 place-of-requires : tie.Need-place-of-requires
 place-of-requires c κs = search needs

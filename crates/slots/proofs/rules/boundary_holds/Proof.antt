@@ -1,23 +1,19 @@
 -- `boundary_holds` meets its contract: the ways are the definition's cases. Assumes nothing.
-use mathlib.Core.Path.{_≡_, sym, ap, ap₂, _∙_}
 use mathlib.Core.Bool.{_&&_}
-use lib.IntN.{ℤ, pos}
+use mathlib.Core.Path.{_∙_, _≡_, ap₂, sym}
+use lib.IntN.{ℤ}
 use borrow.Author.Needs.{needs}
 use Rattle.whole.specs.Whole.{isZero}
-use Rattle.whole.specs.Ranges.{between, inRange}
 use Rattle.whole.proofs.RangeLaws.{read}
-use Rattle.slots.specs.Rules.{isOpen, openHolds, boundaryHolds}
+use Rattle.slots.specs.Rules.{boundaryHolds, openHolds}
 use Rattle.slots.proofs.rules.boundary_holds.Statement.{statement}
 use Rattle.slots.proofs.rules.boundary_holds.Tie as tie
-
-exchanges : (c : tie.After-in-range) → isOpen (c .before .before .args .block) ≡ c .in-range .result
-exchanges c = sym (c .in-range .ensures ∙ ap (inRange (between (pos 1) (pos 2))) (read (c .before .before .pre .kind) tt))
 
 three : {a b c a′ b′ c′ : ℤ} → a ≡ a′ → b ≡ b′ → c ≡ c′ → openHolds a b c ≡ openHolds a′ b′ c′
 three p q r = λ i. openHolds (p i) (q i) (r i)
 
-in-range-requires : tie.Need-in-range-requires
-in-range-requires c κs = search needs
+is-open-requires : tie.Need-is-open-requires
+is-open-requires c κs = search needs
 
 open-holds-requires : tie.Need-open-holds-requires
 open-holds-requires c κs = search needs
@@ -26,13 +22,13 @@ returns : tie.Need-returns
 unfolding boundaryHolds
 returns c =
     let o = c .before .before .before .before .before .before in
-    let ends = o .before .before .pre in
-    rw (exchanges o ∙ c .before .before .before .before .before .if1 .taken, c .before .before .before .before .if2 .taken)
+    let ends = o .before .pre in
+    rw (sym (o .is-open .ensures) ∙ c .before .before .before .before .before .if1 .taken, c .before .before .before .before .if2 .taken)
     (c .open-holds .ensures ∙ three (read (ends .kind) tt) (read (ends .level) tt) (read (ends .boundary-leakance) tt))
 
 returns-2 : tie.Need-returns-2
 unfolding boundaryHolds
-returns-2 c = rw (exchanges (c .before .before) ∙ c .before .if1 .taken, c .if2 .left)
+returns-2 c = rw (sym (c .before .before .is-open .ensures) ∙ c .before .if1 .taken, c .if2 .left)
 
 both-zero-requires : tie.Need-both-zero-requires
 both-zero-requires c κs = search needs
@@ -41,10 +37,10 @@ returns-3 : tie.Need-returns-3
 unfolding boundaryHolds
 returns-3 c =
     let o = c .before .before .before .before in
-    let ends = o .before .before .pre in
-    rw (exchanges o ∙ c .before .before .before .if1 .left) (c .both-zero .ensures ∙ ap₂ (λ x y. isZero x && isZero y) (read (ends .level) tt) (read (ends .boundary-leakance) tt))
+    let ends = o .before .pre in
+    rw (sym (o .is-open .ensures) ∙ c .before .before .before .if1 .left) (c .both-zero .ensures ∙ ap₂ (λ x y. isZero x && isZero y) (read (ends .level) tt) (read (ends .boundary-leakance) tt))
 
 pub boundary-holds-spec : {M : Type 1} → statement M
 boundary-holds-spec =
     tie.close
-    (tie.spec in-range-requires open-holds-requires returns returns-2 both-zero-requires returns-3)
+    (tie.spec is-open-requires open-holds-requires returns returns-2 both-zero-requires returns-3)

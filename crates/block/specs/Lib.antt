@@ -1,0 +1,6 @@
+pub mod Units
+pub mod Fluids
+pub mod Density
+pub mod Geometry
+pub mod Storage
+pub mod Wells

@@ -1,0 +1,4 @@
+pub mod Litres
+pub mod Lateral
+pub mod Leakage
+pub mod Boundary

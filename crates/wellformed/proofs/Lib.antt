@@ -1,0 +1,5 @@
+-- Laws of a case that is judged in full. They hold nothing to believe.
+pub mod LinksLaws
+pub mod WidthsLaws
+pub mod LimitsLaws
+pub mod WorkedTheorems

@@ -1,0 +1,140 @@
+-- What a case that is not refused gives: the law that it is well formed, and what follows for a face's flow. Assumes nothing.
+use mathlib.Core.Bool.{Bool, _&&_, _||_, false, true, true≢false}
+use mathlib.Core.List.{_++_}
+use mathlib.Core.Path.{_≡_, refl}
+use Prim.Native.Nat.{_+_, _<_, _≤_, suc, zero, ℕ}
+use native.Mathlib.Omega.{arith}
+use lib.Dec.{T}
+use lib.IntN.{pos, ℤ}
+use lib.Signed.{_≤ℤ_, ltZ}
+use Rattle.whole.proofs.OrderLaws.{≤ℤ-trans}
+use Rattle.whole.proofs.RangeLaws.{lt-false}
+use Rattle.whole.proofs.SearchLaws.{first-none}
+use Rattle.grid.specs.Place.{blocksOf, strideOf}
+use Rattle.grid.specs.Units.{nextRow}
+use Rattle.grid.proofs.PlaceLaws.{next-inside}
+use Rattle.slices.specs.Slices.{Case, Judged, contentsOf, firstRefusal, judgedOf, shapeOf}
+use Rattle.slices.proofs.SlicesLaws.{blames-none, first-append, here, judged-stands, later, or-none}
+use Rattle.block.specs.Fluids.{fresh, salt}
+use Rattle.block.specs.Geometry.{aquiferTopOf, kOf}
+use Rattle.flow.specs.declared.lateral.Behind.{Behind}
+use Rattle.flow.specs.declared.lateral.Side.{Side}
+use Rattle.flow.specs.Lateral.{BehindIn, SideIn, faceConductanceOf}
+use Rattle.flow.specs.Litres.{mostConductance, overAreaOf}
+use Rattle.flow.proofs.LateralLaws.{through-most}
+use Rattle.wellformed.specs.Limits.{Conducts, WellFormed, aboveExceeds, atFault, blockExceeds, boundaryExceeds, checkedOf, eitherExceeds, exceeds, faceExceeds, firstAtFault, greatestOf, highOf, limitsOf, lowOf, overlaps}
+use Rattle.wellformed.specs.Links.{activeOf, liveOf}
+use Rattle.wellformed.specs.Widths.{areaOf, faceOf}
+use Rattle.wellformed.proofs.LinksLaws.{live-high, live-low, live-next}
+use Rattle.wellformed.proofs.WidthsLaws.{face-in}
+
+-- ---- two active blocks and their face
+
+pub conducts : (c : Case) → Judged c → (d i : ℕ) → d ≤ 1 → i < blocksOf (c .grid) → T (liveOf (c .grid) (c .slots) d i) → Conducts (c .grid) (faceOf c d i) (lowOf c i) (highOf c d i)
+conducts c judged d i h l t =
+    let next = live-next (c .grid) (c .slots) d i t in
+    let low = judged .active i l (live-low (c .grid) (c .slots) d i t) in
+    let high = judged .active (i + strideOf (c .grid) d) (next-inside (c .grid) (judged .counted) d i l next) (live-high (c .grid) (c .slots) d i t) in
+    record {
+      termed = judged .termed;
+      face = face-in c judged i l d h next;
+      low = low .ends;
+      high = high .ends;
+      low-some = low .k-some;
+      high-some = high .k-some;
+    }
+
+-- ---- tests that did not find a fault
+
+-- none of several
+not-left : (a b : Bool) → (a || b) ≡ false → a ≡ false
+not-left true b e = absurd (true≢false e)
+not-left false b e = refl
+
+not-right : (a b : Bool) → (a || b) ≡ false → b ≡ false
+not-right true b e = absurd (true≢false e)
+not-right false b e = e
+
+-- the second of two, where the first holds
+not-second : (a b : Bool) → (a && b) ≡ false → T a → b ≡ false
+not-second true b e t = e
+not-second false b e t = absurd t
+
+module _ (c : Case) (e : firstRefusal (limitsOf c) .number ≡ 0) (i : ℕ) (l : i < blocksOf (c .grid)) where
+  no-fault : (number : ℕ) → firstAtFault c number ≡ 0 → atFault c number i ≡ false
+  unfolding firstAtFault
+  no-fault number h = first-none (atFault c number) (blocksOf (c .grid)) h i l
+
+  not-9 : overlaps c i ≡ false
+  unfolding limitsOf atFault
+  not-9 = no-fault 9 (blames-none 9 (firstAtFault c 9) (omega arith) (search (here, later)) e)
+
+  not-10 : blockExceeds c i ≡ false
+  unfolding limitsOf atFault
+  not-10 = no-fault 10 (blames-none 10 (firstAtFault c 10) (omega arith) (search (here, later)) e)
+
+  -- 10, part by part
+  parts : T (activeOf (c .slots) i) → faceExceeds c 0 i || (faceExceeds c 1 i || (aboveExceeds c i || boundaryExceeds c i)) ≡ false
+  unfolding blockExceeds
+  parts a = not-second (activeOf (c .slots) i) (faceExceeds c 0 i || (faceExceeds c 1 i || (aboveExceeds c i || boundaryExceeds c i))) not-10 a
+
+  face-not : (d : ℕ) → d ≤ 1 → T (activeOf (c .slots) i) → faceExceeds c d i ≡ false
+  face-not zero h a = not-left (faceExceeds c 0 i) (faceExceeds c 1 i || (aboveExceeds c i || boundaryExceeds c i)) (parts a)
+  face-not (suc zero) h a = not-left (faceExceeds c 1 i) (aboveExceeds c i || boundaryExceeds c i) (not-right (faceExceeds c 0 i) (faceExceeds c 1 i || (aboveExceeds c i || boundaryExceeds c i)) (parts a))
+  face-not (suc (suc d)) h a = absurd (omega arith)
+
+  rest : T (activeOf (c .slots) i) → aboveExceeds c i || boundaryExceeds c i ≡ false
+  rest a = not-right (faceExceeds c 1 i) (aboveExceeds c i || boundaryExceeds c i) (not-right (faceExceeds c 0 i) (faceExceeds c 1 i || (aboveExceeds c i || boundaryExceeds c i)) (parts a))
+
+  within-stacked : T (liveOf (c .grid) (c .slots) 2 i) → aquiferTopOf (lowOf c i) ≤ℤ highOf c 2 i .base
+  unfolding overlaps
+  within-stacked t = lt-false (highOf c 2 i .base) (aquiferTopOf (lowOf c i)) (not-second (liveOf (c .grid) (c .slots) 2 i) (ltZ (highOf c 2 i .base) (aquiferTopOf (lowOf c i))) not-9 t)
+
+  within-lateral : (d fluid : ℕ) → d ≤ 1 → T (liveOf (c .grid) (c .slots) d i) → greatestOf (c .grid) (faceOf c d i) (lowOf c i) (highOf c d i) fluid ≤ℤ pos mostConductance
+  unfolding faceExceeds eitherExceeds greatestOf
+  within-lateral d fluid h t = go fluid
+    where
+      of-fluid : ℕ → ℤ
+      of-fluid fluid = greatestOf (c .grid) (faceOf c d i) (lowOf c i) (highOf c d i) fluid
+
+      neither : exceeds (of-fluid fresh) || exceeds (of-fluid salt) ≡ false
+      neither = not-second (liveOf (c .grid) (c .slots) d i) (exceeds (of-fluid fresh) || exceeds (of-fluid salt)) (face-not d h (live-low (c .grid) (c .slots) d i t)) t
+
+      go : (fluid : ℕ) → of-fluid fluid ≤ℤ pos mostConductance
+      go zero = lt-false (pos mostConductance) (of-fluid fresh) (not-left (exceeds (of-fluid fresh)) (exceeds (of-fluid salt)) neither)
+      go (suc n) = lt-false (pos mostConductance) (of-fluid salt) (not-right (exceeds (of-fluid fresh)) (exceeds (of-fluid salt)) neither)
+
+  within-above : T (liveOf (c .grid) (c .slots) 2 i) → overAreaOf (lowOf c i .leakance) (areaOf c i) ≤ℤ pos mostConductance
+  unfolding aboveExceeds
+  within-above t =
+      let z = overAreaOf (lowOf c i .leakance) (areaOf c i) in
+      lt-false (pos mostConductance) z (not-second (liveOf (c .grid) (c .slots) 2 i) (exceeds z) (not-left (aboveExceeds c i) (boundaryExceeds c i) (rest (live-low (c .grid) (c .slots) 2 i t))) t)
+
+  within-boundary : T (activeOf (c .slots) i) → overAreaOf (lowOf c i .«boundary_leakance») (areaOf c i) ≤ℤ pos mostConductance
+  unfolding boundaryExceeds
+  within-boundary a = lt-false (pos mostConductance) (overAreaOf (lowOf c i .«boundary_leakance») (areaOf c i)) (not-right (aboveExceeds c i) (boundaryExceeds c i) (rest a))
+
+-- The law that a case which is not refused is well formed.
+pub checked-stands : (c : Case) → checkedOf c .number ≡ 0 → WellFormed c
+checked-stands c e =
+    let h = or-none (judgedOf c) (firstRefusal (limitsOf c)) (rw (first-append (shapeOf c ++ contentsOf c) (limitsOf c)) at e) in
+    record {
+      judged = judged-stands c (h .0);
+      stacked = λ i l t. within-stacked c (h .1) i l t;
+      lateral = λ d i fluid k l t. within-lateral c (h .1) i l d fluid k t;
+      leakage = λ i l t. within-above c (h .1) i l t;
+      boundary = λ i l a. within-boundary c (h .1) i l a;
+    }
+
+-- In a well-formed case no face conducts beyond the limit, whatever of the two aquifers the fluid fills.
+pub face-passes :
+    (c : Case) → WellFormed c → (d i fluid : ℕ) → d ≤ nextRow → i < blocksOf (c .grid) → T (liveOf (c .grid) (c .slots) d i)
+    → (a b : Side) (p : Behind) → SideIn a → SideIn b → BehindIn p
+    → a .k ≡ kOf (c .grid) (lowOf c i) fluid → b .k ≡ kOf (c .grid) (highOf c d i) fluid
+    → a .thickness ≤ℤ lowOf c i .thickness → b .thickness ≤ℤ highOf c d i .thickness
+    → faceConductanceOf (faceOf c d i) a b p ≤ℤ pos mostConductance
+unfolding greatestOf
+face-passes c formed d i fluid h l t a b p k m q x y low high =
+    ≤ℤ-trans
+    (through-most (faceOf c d i) a b p (face-in c (formed .judged) i l d h (live-next (c .grid) (c .slots) d i t)) k m q (lowOf c i .thickness) (highOf c d i .thickness) low high)
+    (rw (x, y) (formed .lateral d i fluid h l t))

@@ -1,0 +1,30 @@
+-- What a live link tells. Assumes nothing.
+use mathlib.Core.Bool.{_&&_}
+use mathlib.Core.List.{List}
+use Prim.Native.Nat.{_*_, _+_, _<_, _≤_, ℕ}
+use native.Mathlib.Omega.{arith}
+use lib.Dec.{T}
+use lib.IntN.{ℤ}
+use Rattle.whole.proofs.SearchLaws.{both}
+use Rattle.grid.specs.declared.Grid.{Grid}
+use Rattle.grid.specs.Place.{nextOf, strideOf}
+use Rattle.wellformed.specs.Links.{activeOf, liveOf}
+
+module _ (g : Grid) (slots : List ℤ) (d i : ℕ) (t : T (liveOf g slots d i)) where
+  pub live-next : T (nextOf g d i)
+  unfolding liveOf
+  live-next = both (nextOf g d i) (activeOf slots i && activeOf slots (i + strideOf g d)) t .0
+
+  ends-active : T (activeOf slots i) × T (activeOf slots (i + strideOf g d))
+  unfolding liveOf
+  ends-active = both (activeOf slots i) (activeOf slots (i + strideOf g d)) (both (nextOf g d i) (activeOf slots i && activeOf slots (i + strideOf g d)) t .1)
+
+  pub live-low : T (activeOf slots i)
+  live-low = ends-active .0
+
+  pub live-high : T (activeOf slots (i + strideOf g d))
+  live-high = ends-active .1
+
+-- the slots reach to the end of a block that is inside
+pub reach : {n i most : ℕ} → 16 * n ≤ most → i < n → 16 * i + 16 ≤ most
+reach h l = omega (arith, h, l)
