@@ -2,16 +2,17 @@
 -- up to the pumpage. Assumes nothing.
 use mathlib.Core.Bool.{Bool, _&&_, cond, false, not, true, true≢false}
 use mathlib.Core.Logic.{⊎-elim}
-use mathlib.Core.Path.{_≡_, refl, subst, sym}
+use mathlib.Core.Path.{_∙_, _≡_, ap, refl, subst, sym}
 use Prim.Native.Nat.{suc, zero, ℕ}
 use native.Mathlib.Omega.{arith}
 use lib.IntN.{_*ℤ_, _+ℤ_, _-ℤ_, negℤ, pos, ℤ}
 use lib.Signed.{_≤ℤ_, leZ-yes, ltZ, ≤ℤ-refl}
+use types.Kit.{some}
 use Rattle.whole.specs.Whole.{Abs, In, clampOf, cutOf, isZero, maxℤ, minℤ}
 use Rattle.whole.proofs.DivisionLaws.{cut-mono, cut-mul, cut-nonneg}
 use Rattle.whole.proofs.LinearLaws.{#, from1, from2, from3, linear, signed}
 use Rattle.whole.proofs.OrderLaws.{<ℤ-≤ℤ, clamp-above, clamp-below, maxℤ-l, maxℤ-r, maxℤ-≤, minℤ-r, mul-anti, mul-mono, mul-nonneg, one-least, zero-is, ≤ℤ-antisymm, ≤ℤ-or-<, ≤ℤ-trans}
-use Rattle.whole.proofs.RangeLaws.{leaf, lt-false, lt-true, ranges, within}
+use Rattle.whole.proofs.RangeLaws.{high, leaf, low, lt-false, lt-true, ranges, within}
 use Rattle.whole.proofs.SearchLaws.{holds}
 use Rattle.grid.specs.declared.Grid.{Grid}
 use Rattle.grid.specs.Judging.{Termed}
@@ -21,8 +22,8 @@ use Rattle.slots.specs.Units.{mostPumpage, mostThickness}
 use Rattle.block.specs.declared.Fluids.{Fluids}
 use Rattle.block.specs.declared.geometry.Levels.{Levels}
 use Rattle.block.specs.Density.{interfaceOf}
-use Rattle.block.specs.Fluids.{EachIn, Thick, fluidsOf, togetherOf}
-use Rattle.block.specs.Geometry.{Levelled, aquiferTopOf, hasTable, heldOf, kOf, levelsOf, saturatedTopOf, thicknessesOf}
+use Rattle.block.specs.Fluids.{EachIn, Thick, fluidsOf, inFluid, togetherOf}
+use Rattle.block.specs.Geometry.{Levelled, aquiferTopOf, hasTable, heldOf, kOf, levelsOf, levelsOn, saturatedTopOf, thicknessesOf}
 use Rattle.block.specs.Storage.{storageOf, volumeOf}
 use Rattle.block.specs.Units.{Level, mostArea, mostFluidK, mostVolume}
 use Rattle.block.specs.Wells.{freshShareOf, isDry, lengthWithin, lengthsOf, sharesOf}
@@ -93,6 +94,38 @@ thicknesses-thick l h = record { of-fresh = h .of-fresh; of-salt = h .of-salt }
 pub thicknesses-add : (l : Levels) → thicknessesOf l .fresh +ℤ thicknessesOf l .salt ≡ l .top -ℤ l .base
 unfolding thicknessesOf
 thicknesses-add l = linear (search (signed, # (l .base), # (l .interface), # (l .top)) depth 30) (omega arith)
+
+-- no fluid is thicker than the aquifer
+between : (base interface top thickness : ℤ) → pos 0 ≤ℤ (top -ℤ interface) → pos 0 ≤ℤ (interface -ℤ base) → top ≤ℤ (base +ℤ thickness) → ((top -ℤ interface) ≤ℤ thickness) × ((interface -ℤ base) ≤ℤ thickness)
+between base interface top thickness h k m = (
+  from3 h k m (search (signed, # base, # interface, # top, # thickness) depth 40) (omega arith),
+  from3 h k m (search (signed, # base, # interface, # top, # thickness) depth 40) (omega arith),
+)
+
+pub thickness-within : (g : Grid) (b : Block) (top : Bool) (h : Fluids) (fluid : ℕ) → Ends b → inFluid (thicknessesOf (levelsOf g b top h)) fluid ≤ℤ b .thickness
+unfolding thicknessesOf levelsOf aquiferTopOf
+thickness-within g b top h zero e =
+    let levelled = levels-levelled g b top h e in
+    between (b .base) (heldOf g b top h) (saturatedTopOf g b top h) (b .thickness) (levelled .of-fresh .low) (levelled .of-salt .low) (saturated-below b e g top h) .0
+thickness-within g b top h (suc n) e =
+    let levelled = levels-levelled g b top h e in
+    between (b .base) (heldOf g b top h) (saturatedTopOf g b top h) (b .thickness) (levelled .of-fresh .low) (levelled .of-salt .low) (saturated-below b e g top h) .1
+
+-- levels with equal fields
+pub levels-same : {a b c x y z : ℤ} → a ≡ x → b ≡ y → c ≡ z → _≡_ {A = Levels} (record { base = a; interface = b; top = c }) (record { base = x; interface = y; top = z })
+levels-same p q r = λ i. record { base = p i; interface = q i; top = r i }
+
+pub levels-base : (g : Grid) (b : Block) (top : Bool) (h : Fluids) → b .base ≡ levelsOf g b top h .base
+unfolding levelsOf
+levels-base g b top h = refl
+
+-- a block stands on its base as high as its waters are thick
+pub levels-back : (l : Levels) → levelsOn (l .base) (thicknessesOf l) ≡ l
+unfolding levelsOn thicknessesOf
+levels-back l = λ k. record { base = l .base; interface = up (l .base) (l .interface) k; top = (ap (λ z. z +ℤ (l .top -ℤ l .interface)) (up (l .base) (l .interface)) ∙ up (l .interface) (l .top)) k }
+  where
+    up : (a b : ℤ) → a +ℤ (b -ℤ a) ≡ b
+    up a b = linear (search (signed, # a, # b) depth 30) (omega arith)
 
 -- ---- K in a fluid, of an active block
 

@@ -37,6 +37,10 @@ levelsOf g b top h = record { base = b .base; interface = heldOf g b top h; top 
 unfoldable pub thicknessesOf : Levels → Fluids
 thicknessesOf l = fluidsOf (l .top -ℤ l .interface) (l .interface -ℤ l .base)
 
+-- the same levels, of a block on its base, from its thicknesses: base, then salt water, then fresh
+unfoldable pub levelsOn : ℤ → Fluids → Levels
+levelsOn base waters = record { base = base; interface = base +ℤ waters .salt; top = base +ℤ waters .salt +ℤ waters .fresh }
+
 -- "K for salt is floor(K(δ+1)/δ)", and for fresh the block's own
 abbrev pub kOf : Grid → Block → ℕ → ℤ
 kOf g b zero = b .k

@@ -1,9 +1,20 @@
 // Levels and thicknesses of a block's waters (document 01, "One block"), and its K in each fluid.
 ghost use mathlib.Core.Path.{_≡_};
+ghost use Rattle.whole.specs.Whole.{Abs};
 ghost use Rattle.grid.specs.Judging.{Termed};
+ghost use Rattle.slots.specs.Units.{mostLevel};
 ghost use Rattle.slots.specs.Slots.{Ends};
-ghost use Rattle.block.specs.Fluids.{Heads};
-ghost use Rattle.block.specs.Geometry.{aquiferTopOf, hasTable, saturatedTopOf, levelsOf, thicknessesOf, kOf, Levelled};
+ghost use Rattle.block.specs.Fluids.{Heads, Thick};
+ghost use Rattle.block.specs.Geometry.{
+  aquiferTopOf,
+  hasTable,
+  saturatedTopOf,
+  levelsOf,
+  thicknessesOf,
+  levelsOn,
+  kOf,
+  Levelled,
+};
 use super::Fluids;
 use super::density::interface;
 use super::density::salt_k;
@@ -71,6 +82,20 @@ pub fn thicknesses(levels: Levels) -> Fluids
     Fluids {
         fresh: levels.top - levels.interface,
         salt: levels.interface - levels.base,
+    }
+}
+
+// The levels of a block whose base stands at a level, by the thickness of each fluid, ticks. Inner: all are in range.
+pub fn levels_on(base: i64, waters: Fluids) -> Levels
+    requires { ⌜ Abs mostLevel base ⌝ }
+    requires { ⌜ Thick waters ⌝ }
+    ensures { λ r. ⌜ r ≡ levelsOn base waters ⌝ }
+{
+    let interface = base + waters.salt;
+    Levels {
+        base,
+        interface,
+        top: interface + waters.fresh,
     }
 }
 

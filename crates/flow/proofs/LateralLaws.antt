@@ -109,6 +109,15 @@ tip-in m La Ba p h l w = go (ltZ (pos 0) (p .thickness))
         }
     go false = record { low = ≤ℤ-refl (pos 0); high = ≤ℤ-trans (h .low) (h .high) }
 
+-- a face of which only the low, or only the high side holds the fluid is a tip
+pub tip-low : (f : Face) (B1 B2 : ℤ) (p : Behind) → ltZ (pos 0) B1 ≡ true → ltZ (pos 0) B2 ≡ false → faceThicknessOf f B1 B2 p ≡ tipOf (f .low) B1 p
+unfolding faceThicknessOf
+tip-low f B1 B2 p a b = rw (a, b)
+
+pub tip-high : (f : Face) (B1 B2 : ℤ) (p : Behind) → ltZ (pos 0) B1 ≡ false → ltZ (pos 0) B2 ≡ true → faceThicknessOf f B1 B2 p ≡ tipOf (f .high) B2 p
+unfolding faceThicknessOf
+tip-high f B1 B2 p a b = rw (a, b)
+
 -- a face is no thicker than the thicker of its blocks
 pub face-thickness-in : (m : ℤ) (f : Face) (B1 B2 : ℤ) (p : Behind) → FaceIn f → BehindIn p → In (pos 0) m B1 → In (pos 0) m B2 → In (pos 0) m (faceThicknessOf f B1 B2 p)
 unfolding faceThicknessOf

@@ -1,23 +1,26 @@
 -- Laws of places and links: block and place determine each other, a link's two ends are inside, a block's neighbours are those across its own three links and
 -- the three that end in it, and a sum over blocks of what links bring is a sum over links.
 -- Assumes nothing.
-use mathlib.Core.Path.{_≡_, refl, sym, ap, _∙_, subst}
-use mathlib.Core.Logic.{_⊎_, inl, inr, _↔_}
-use mathlib.Core.Bool.{Bool, true, false, _&&_}
-use Prim.Native.Nat.{ℕ, zero, suc, _+_, _*_, _-_, _/_, _%_, _≤_, _<_}
-use native.Mathlib.Nat.{div-add-mod', mod-lt, div-lt-iff-lt-mul}
-use native.Mathlib.Omega.{arith}
+use mathlib.Core.Bool.{Bool, _&&_, false, not, true}
+use mathlib.Core.Logic.{_↔_, _⊎_, inl, inr}
+use mathlib.Core.Path.{_∙_, _≡_, ap, refl, subst, sym}
+use Prim.Native.Nat.{_%_, _*_, _+_, _-_, _/_, _<_, _≤_, suc, zero, ℕ}
 use native.Mathlib.Decide.{ℕ-discrete}
-use lib.Arith.{digits-lt, digits-div, digits-mod}
-use lib.Dec.{T, ltb, leb, ltb→lt, lt→ltb, leb→le, le→leb}
-use lib.IntN.{ℤ, _+ℤ_}
-use Rattle.whole.specs.Sum.{only, sum, back}
-use Rattle.whole.proofs.SumLaws.{only-add, only-and, only-off, sum-same, sum-add, sum-move}
-use Rattle.whole.proofs.SearchLaws.{both, joint, same-test}
+use native.Mathlib.Nat.{div-add-mod', div-lt-iff-lt-mul, mod-lt}
+use native.Mathlib.Omega.{arith}
+use lib.Arith.{digits-div, digits-lt, digits-mod}
+use lib.Dec.{T, eqb, leb, leb→le, le→leb, ltb, ltb→lt, lt→ltb}
+use lib.IntN.{_+ℤ_, ℤ}
+use borrow.Author.Tests.{eq-eqb, ltb-false, ne-eqb}
+use Rattle.whole.specs.Sum.{back, only, sum}
+use Rattle.whole.proofs.RangeLaws.{low}
+use Rattle.whole.proofs.SearchLaws.{both, holds, joint, same-test}
+use Rattle.whole.proofs.SumLaws.{only-add, only-and, only-off, sum-add, sum-move, sum-same}
 use Rattle.grid.specs.declared.Grid.{Grid}
 use Rattle.grid.specs.declared.place.Place.{Place}
 use Rattle.grid.specs.declared.place.Neighbour.the-variants.{At}
-use Rattle.grid.specs.Place.{blocksOf, Counted, placeOf, blockAt, Inside, coordinateOf, extentOf, strideOf, hasNext, hasPrevious, nextOf, previousOf, there, neighbourOf, Beside}
+use Rattle.grid.specs.Place.{Beside, Counted, Inside, behindOf, blockAt, blocksOf, coordinateOf, earlierOf, extentOf, hasNext, hasPrevious, neighbourOf, nextOf, placeOf, previousOf, strideOf, there, topOf}
+use Rattle.grid.specs.Units.{above}
 
 -- an axis that is neither 0 nor 1 leads above
 pub above-axis : (d : ℕ) → (d ≡ 0 → ⊥) → (d ≡ 1 → ⊥) → (e : ℕ) × (d ≡ suc (suc e))
@@ -78,10 +81,9 @@ module _ (g : Grid) where
   moved-inside p (suc (suc d)) i t = record { column = i .column; row = i .row; layer = ltb→lt _ _ t }
 
 -- one step back
-earlier : Place → ℕ → Place
-earlier p zero = record { column = p .column - 1; row = p .row; layer = p .layer }
-earlier p (suc zero) = record { column = p .column; row = p .row - 1; layer = p .layer }
-earlier p (suc (suc d)) = record { column = p .column; row = p .row; layer = p .layer - 1 }
+pub some-before : (p : Place) (d : ℕ) → hasPrevious p d ≡ true → 1 ≤ coordinateOf p d
+unfolding hasPrevious
+some-before p d e = ltb→lt 0 (coordinateOf p d) (holds e)
 
 on-again : (n : ℕ) → T (ltb 0 n) → n - 1 + 1 ≡ n
 on-again n t = omega (arith, ltb→lt 0 n t)
@@ -89,21 +91,20 @@ on-again n t = omega (arith, ltb→lt 0 n t)
 within-again : (n m : ℕ) → n < m → T (ltb 0 n) → T (ltb (n - 1 + 1) m)
 within-again n m l t = lt→ltb (n - 1 + 1) m (omega (arith, ltb→lt 0 n t))
 
-moved-earlier : (p : Place) (d : ℕ) → T (hasPrevious p d) → moved (earlier p d) d ≡ p
-unfolding moved earlier hasPrevious
+moved-earlier : (p : Place) (d : ℕ) → T (hasPrevious p d) → moved (earlierOf p d) d ≡ p
+unfolding moved hasPrevious
 moved-earlier p zero t = λ k. record { column = on-again (p .column) t k; row = p .row; layer = p .layer }
 moved-earlier p (suc zero) t = λ k. record { column = p .column; row = on-again (p .row) t k; layer = p .layer }
 moved-earlier p (suc (suc d)) t = λ k. record { column = p .column; row = p .row; layer = on-again (p .layer) t k }
 
 module _ (g : Grid) (p : Place) (inside : Inside g p) where
-  earlier-inside : (d : ℕ) → Inside g (earlier p d)
-  unfolding earlier
+  earlier-inside : (d : ℕ) → Inside g (earlierOf p d)
   earlier-inside zero = record { column = omega (arith, inside .column); row = inside .row; layer = inside .layer }
   earlier-inside (suc zero) = record { column = inside .column; row = omega (arith, inside .row); layer = inside .layer }
   earlier-inside (suc (suc d)) = record { column = inside .column; row = inside .row; layer = omega (arith, inside .layer) }
 
-  earlier-next : (d : ℕ) → T (hasPrevious p d) → T (hasNext g (earlier p d) d)
-  unfolding earlier hasPrevious hasNext
+  earlier-next : (d : ℕ) → T (hasPrevious p d) → T (hasNext g (earlierOf p d) d)
+  unfolding hasPrevious hasNext
   earlier-next zero t = within-again (p .column) (g .columns) (inside .column) t
   earlier-next (suc zero) t = within-again (p .row) (g .rows) (inside .row) t
   earlier-next (suc (suc d)) t = within-again (p .layer) (g .layers) (inside .layer) t
@@ -125,6 +126,18 @@ module _ (g : Grid) (counted : Counted g) (d i : ℕ) (l : i < blocksOf g) where
   next-place : T (nextOf g d i) → placeOf g (i + strideOf g d) ≡ moved (placeOf g i) d
   next-place t = rw (← next-block) (place-block g (moved (placeOf g i) d) (next-inside-place t))
 
+-- the top layer is the one that none follows
+last : (l n : ℕ) → l < n → not (ltb (l + 1) n) ≡ eqb (l + 1) n
+last l n h = go (ltb (l + 1) n) refl
+  where
+    go : (b : Bool) → ltb (l + 1) n ≡ b → not b ≡ eqb (l + 1) n
+    go true e = sym (ne-eqb (l + 1) n (λ p. absurd (omega (arith, p, ltb→lt (l + 1) n (holds e)))))
+    go false e = sym (eq-eqb (l + 1) n (omega (arith, h, ltb-false (l + 1) n e)))
+
+pub top-last : (g : Grid) → Counted g → (i : ℕ) → i < blocksOf g → (p : Place) → p ≡ placeOf g i → not (hasNext g p above) ≡ topOf g i
+unfolding hasNext topOf
+top-last g counted i l p at = rw at (last (placeOf g i .layer) (g .layers) (place-inside g counted i l .layer))
+
 -- what a block's place tells of its links
 module _ (g : Grid) (d i : ℕ) (p : Place) (q : Bool) (at : p ≡ placeOf g i) where
   pub next-told : q ≡ hasNext g p d → nextOf g d i ≡ q
@@ -143,21 +156,24 @@ moved-has p (suc (suc d)) = lt→ltb 0 (p .layer + 1) (omega arith)
 
 -- a link ends in block i where one leads on from i - stride
 module _ (g : Grid) (counted : Counted g) (d i : ℕ) (l : i < blocksOf g) where
-  previous-block : T (previousOf g d i) → blockAt g (earlier (placeOf g i) d) + strideOf g d ≡ i
+  previous-block : T (previousOf g d i) → blockAt g (earlierOf (placeOf g i) d) + strideOf g d ≡ i
   unfolding previousOf
-  previous-block t = sym (moved-block g (earlier (placeOf g i) d) d) ∙ ap (blockAt g) (moved-earlier (placeOf g i) d t) ∙ block-place g i
+  previous-block t = sym (moved-block g (earlierOf (placeOf g i) d) d) ∙ ap (blockAt g) (moved-earlier (placeOf g i) d t) ∙ block-place g i
 
   pub previous-low : T (previousOf g d i) → strideOf g d ≤ i
   previous-low t = omega (arith, previous-block t)
 
-  low-block : T (previousOf g d i) → i - strideOf g d ≡ blockAt g (earlier (placeOf g i) d)
+  low-block : T (previousOf g d i) → i - strideOf g d ≡ blockAt g (earlierOf (placeOf g i) d)
   low-block t = omega (arith, previous-block t)
 
   pub previous-next : T (previousOf g d i) → T (nextOf g d (i - strideOf g d))
   unfolding previousOf nextOf
   previous-next t =
       let inside = earlier-inside g (placeOf g i) (place-inside g counted i l) d in
-      rw (low-block t, place-block g (earlier (placeOf g i) d) inside) (earlier-next g (placeOf g i) (place-inside g counted i l) d t)
+      rw (low-block t, place-block g (earlierOf (placeOf g i) d) inside) (earlier-next g (placeOf g i) (place-inside g counted i l) d t)
+
+  pub previous-place : T (previousOf g d i) → placeOf g (i - strideOf g d) ≡ earlierOf (placeOf g i) d
+  previous-place t = ap (placeOf g) (low-block t) ∙ place-block g (earlierOf (placeOf g i) d) (earlier-inside g (placeOf g i) (place-inside g counted i l) d)
 
   pub next-previous : strideOf g d ≤ i → T (nextOf g d (i - strideOf g d)) → T (previousOf g d i)
   unfolding previousOf
@@ -178,6 +194,11 @@ across-inside g counted d i p false l e = go (previousOf g d i) e
     go : (b : Bool) → there b (i - strideOf g d) ≡ At p → p < blocksOf g
     go true e = let same : i - strideOf g d ≡ p = cc in omega arith
     go false e = let z : _≡_ {A = ℕ} 0 1 = cc in absurd (omega arith)
+
+pub behind-inside : (g : Grid) → Counted g → (d i p : ℕ) (low : Bool) → i + strideOf g d < blocksOf g → behindOf g d i low ≡ At p → p < blocksOf g
+unfolding behindOf
+behind-inside g counted d i p true l e = across-inside g counted d i p false (omega (arith, l)) e
+behind-inside g counted d i p false l e = across-inside g counted d (i + strideOf g d) p true l e
 
 -- ---- a block's neighbours
 

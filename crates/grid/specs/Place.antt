@@ -1,13 +1,13 @@
 -- Where a block lies, and its links (document 01, "Units and ranges"). A block is its number less 1.
+use mathlib.Core.Bool.{Bool, false, true}
 use mathlib.Core.Path.{_≡_}
-use mathlib.Core.Bool.{Bool, true, false}
-use Prim.Native.Nat.{ℕ, zero, suc, _+_, _*_, _-_, _/_, _%_, _≤_, _<_}
-use lib.Dec.{ltb, eqb}
+use Prim.Native.Nat.{_%_, _*_, _+_, _-_, _/_, _<_, _≤_, suc, zero, ℕ}
+use lib.Dec.{eqb, ltb}
 use Rattle.grid.specs.declared.Grid.{Grid}
-use Rattle.grid.specs.declared.place.Place.{Place}
 use Rattle.grid.specs.declared.place.Neighbour.{Neighbour}
+use Rattle.grid.specs.declared.place.Place.{Place}
 use Rattle.grid.specs.declared.place.Neighbour.the-variants.{At, Outside}
-use Rattle.grid.specs.Units.{mostAcross, mostLayers, mostBlocks}
+use Rattle.grid.specs.Units.{mostAcross, mostBlocks, mostLayers}
 
 -- the block total
 abbrev pub blocksOf : Grid → ℕ
@@ -64,6 +64,12 @@ hasNext g p d = ltb (coordinateOf p d + 1) (extentOf g d)
 
 unfoldable pub hasPrevious : Place → ℕ → Bool
 hasPrevious p d = ltb 0 (coordinateOf p d)
+
+-- the place one step back along the axis
+abbrev pub earlierOf : Place → ℕ → Place
+earlierOf p zero = record { column = p .column - 1; row = p .row; layer = p .layer }
+earlierOf p (suc zero) = record { column = p .column; row = p .row - 1; layer = p .layer }
+earlierOf p (suc (suc d)) = record { column = p .column; row = p .row; layer = p .layer - 1 }
 
 -- the link (d, i) joins block i, its low end, to block i + stride, its high end, where that block is there
 unfoldable pub nextOf : Grid → ℕ → ℕ → Bool

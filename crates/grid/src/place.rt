@@ -1,6 +1,7 @@
 // Where a block lies, and its links: "Blocks are numbered from 1, by layer, then row, then column." In code and definitions a
 // block is its number less 1. A link leads along one of three axes, 0 to the next column, 1 to the next row, 2 to the block above.
 ghost use mathlib.Core.Path.{_≡_};
+ghost use mathlib.Core.Bool.{true};
 ghost use Prim.Native.Nat.{_+_, _<_};
 ghost use Rattle.grid.specs.Place.{
   blocksOf,
@@ -12,6 +13,7 @@ ghost use Rattle.grid.specs.Place.{
   strideOf,
   hasNext,
   hasPrevious,
+  earlierOf,
   neighbourOf,
   behindOf,
   Counted,
@@ -120,6 +122,30 @@ pub fn has_previous(place: Place, axis: usize) -> bool
     ensures { λ r. ⌜ r ≡ hasPrevious place axis ⌝ }
 {
     0 < coordinate(place, axis)
+}
+
+// The place one step back along the axis. Inner: a block comes before this one.
+pub fn earlier(place: Place, axis: usize) -> Place
+    requires { ⌜ hasPrevious place axis ≡ true ⌝ }
+    ensures { λ r. ⌜ r ≡ earlierOf place axis ⌝ }
+{
+    match axis {
+        0 => Place {
+            column: place.column - 1,
+            row: place.row,
+            layer: place.layer,
+        },
+        1 => Place {
+            column: place.column,
+            row: place.row - 1,
+            layer: place.layer,
+        },
+        _ => Place {
+            column: place.column,
+            row: place.row,
+            layer: place.layer - 1,
+        },
+    }
 }
 
 // The block across the link that leads on from this one along the axis, or across the link that ends in it.

@@ -5,7 +5,8 @@ use Prim.Native.Nat.{_*_, _+_, _<_, _≤_, ℕ}
 use native.Mathlib.Omega.{arith}
 use lib.Dec.{T}
 use lib.IntN.{ℤ}
-use Rattle.whole.proofs.SearchLaws.{both}
+use Rattle.whole.proofs.RangeLaws.{high, low}
+use Rattle.whole.proofs.SearchLaws.{both, joint}
 use Rattle.grid.specs.declared.Grid.{Grid}
 use Rattle.grid.specs.Place.{nextOf, strideOf}
 use Rattle.wellformed.specs.Links.{activeOf, liveOf}
@@ -24,6 +25,11 @@ module _ (g : Grid) (slots : List ℤ) (d i : ℕ) (t : T (liveOf g slots d i)) 
 
   pub live-high : T (activeOf slots (i + strideOf g d))
   live-high = ends-active .1
+
+-- a link between active neighbours is live
+pub joined-live : (g : Grid) (slots : List ℤ) (d i : ℕ) → T (nextOf g d i) → T (activeOf slots i) → T (activeOf slots (i + strideOf g d)) → T (liveOf g slots d i)
+unfolding liveOf
+joined-live g slots d i next low high = joint (nextOf g d i) (activeOf slots i && activeOf slots (i + strideOf g d)) next (joint (activeOf slots i) (activeOf slots (i + strideOf g d)) low high)
 
 -- the slots reach to the end of a block that is inside
 pub reach : {n i most : ℕ} → 16 * n ≤ most → i < n → 16 * i + 16 ≤ most

@@ -4,7 +4,6 @@ use mathlib.Core.List.{List}
 use Prim.Native.Nat.{_+_, _<_, suc, zero, ℕ}
 use lib.IntN.{_*ℤ_, pos, ℤ}
 use lib.ListN.{getD, length}
-use Rattle.whole.proofs.RangeLaws.{high, low}
 use Rattle.grid.specs.declared.place.Place.{Place}
 use Rattle.grid.specs.Place.{placeOf}
 use Rattle.slices.specs.Slices.{Case}

@@ -343,6 +343,10 @@ module _ {x y : ℤ} (f : SFits w64 x) (g : SFits w64 y) where
 pub positive : {l h z : ℤ} {b : Bool} → In l h z → T (ok l h) → ltZ (pos 0) (toZ w64 (ofZ w64 z)) ≡ b → ltZ (pos 0) z ≡ b
 positive i t e = sym (ap (ltZ (pos 0)) (read i t)) ∙ e
 
+-- and of any i64
+pub positive-any : {z : ℤ} {b : Bool} → SFits w64 z → ltZ (pos 0) (toZ w64 (ofZ w64 z)) ≡ b → ltZ (pos 0) z ≡ b
+positive-any {z} f e = sym (lt-bits (fits (b-pos 0) tt) f) ∙ e
+
 -- ---- a fact of a term's value is one of the term, and the other way round
 pub on : {z : ℤ} (F : ℤ → Type 0) (b : Bounds z) → F (val b) → F z
 on F b t = subst F (sym (exact b)) t

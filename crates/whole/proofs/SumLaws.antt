@@ -199,3 +199,17 @@ sum-in n k t g l h =
   where
     all : (n : ℕ) → count n (λ i. true) ≤ n
     all n = count-most n (λ i. true)
+
+-- ---- how many pass a test: alike, and as a loop counts
+pub count-same : (n : ℕ) (f g : ℕ → Bool) → ((i : ℕ) → i < n → f i ≡ g i) → count n f ≡ count n g
+unfolding count
+count-same zero f g h = refl
+count-same (suc n) f g h = ap₂ (λ (k : ℕ) (b : Bool). k + cond b 1 0) (count-same n f g (λ i l. h i (omega arith))) (h n (omega arith))
+
+pub count-start : (test : ℕ → Bool) → count 0 test ≡ 0
+unfolding count
+count-start test = refl
+
+pub count-more : (n : ℕ) (test : ℕ → Bool) → count (n + 1) test ≡ count n test + cond (test n) 1 0
+unfolding count
+count-more n test = rw add-one

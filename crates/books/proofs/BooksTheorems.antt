@@ -1,0 +1,60 @@
+-- No face is skipped, of the books: two active blocks that touch are joined by a live link, and what it carries leaves the one and enters the
+-- other, in the fluids that document 01 names, tip faces included. That every link counts in the balances is in crate `balance`. Assumes
+-- nothing.
+use mathlib.Core.Bool.{false, true}
+use mathlib.Core.Path.{_∙_, _≡_, ap, refl}
+use Prim.Native.Nat.{_+_, _<_, _≤_, ℕ}
+use native.Mathlib.Omega.{arith}
+use lib.Dec.{T, eqb}
+use lib.IntN.{negℤ, pos, ℤ}
+use lib.Signed.{ltZ}
+use Rattle.whole.specs.Sum.{only}
+use Rattle.whole.proofs.RangeLaws.{high, low}
+use Rattle.whole.proofs.SearchLaws.{true-is}
+use Rattle.grid.specs.Place.{Beside, behindOf, blocksOf, strideOf}
+use Rattle.grid.specs.Units.{above, nextRow}
+use Rattle.grid.proofs.PlaceLaws.{beside-link}
+use Rattle.slices.specs.Slices.{Case, Judged}
+use Rattle.flow.specs.Lateral.{faceThicknessOf, tipOf}
+use Rattle.flow.specs.Leakage.{lowermostOf, uppermostOf}
+use Rattle.flow.proofs.LateralLaws.{tip-high, tip-low}
+use Rattle.wellformed.specs.Links.{activeOf, liveOf}
+use Rattle.wellformed.specs.Widths.{faceOf}
+use Rattle.wellformed.proofs.LinksLaws.{joined-live}
+use Rattle.books.specs.Blocks.{watersOf}
+use Rattle.books.specs.Bookkeeping.{booksOf, broughtOf}
+use Rattle.books.specs.Links.{behindAt, lateralAt, leakageAt, namedOf, tipBehindOf}
+use Rattle.books.proofs.CarriedLaws.{brought-live, carried-lateral, counts-lateral}
+
+-- Two active blocks that touch, in a row, in a column or one above the other, are joined by a live link.
+pub touching-are-joined : (c : Case) → Judged c → (d i j : ℕ) → d < 3 → i < blocksOf (c .grid) → j < blocksOf (c .grid) → T (activeOf (c .slots) i) → T (activeOf (c .slots) j) → Beside (c .grid) d i j
+    → T (liveOf (c .grid) (c .slots) d i) × (j ≡ i + strideOf (c .grid) d)
+touching-are-joined c judged d i j axis l m a b beside =
+    let h = beside-link (c .grid) (judged .counted) d i j axis l m beside in
+    (joined-live (c .grid) (c .slots) d i (h .0) a (rw (← h .1) b), h .1)
+
+module _ (c : Case) (fluid d i : ℕ) (live : T (liveOf (c .grid) (c .slots) d i)) where
+  -- A live lateral face, a tip face like any other, takes its flow from the block on its low side and gives it to the one on its high side, in
+  -- each fluid by itself. Where the flow is negative it goes the other way.
+  pub lateral-in-both : d ≤ nextRow → (broughtOf (booksOf c fluid) true d i ≡ negℤ (lateralAt c fluid d i)) × (broughtOf (booksOf c fluid) false d i ≡ lateralAt c fluid d i)
+  lateral-in-both h = (
+    brought-live c fluid d i true (true-is live) (counts-lateral (c .grid) (c .slots) fluid d i true (omega arith)) ∙ ap negℤ (carried-lateral c fluid d i (omega arith)),
+    brought-live c fluid d i false (true-is live) (counts-lateral (c .grid) (c .slots) fluid d i false (omega arith)) ∙ carried-lateral c fluid d i (omega arith),
+  )
+
+-- A tip face, of which only one side holds the fluid, is as thick as the slope from the block behind that side leaves it, whichever side it is.
+pub tip-extrapolated : (c : Case) (fluid d i : ℕ) (low high : ℤ)
+    → (ltZ (pos 0) low ≡ true → ltZ (pos 0) high ≡ false → faceThicknessOf (faceOf c d i) low high (tipBehindOf c fluid d i low high) ≡ tipOf (faceOf c d i .low) low (behindAt c fluid d (behindOf (c .grid) d i true)))
+    × (ltZ (pos 0) low ≡ false → ltZ (pos 0) high ≡ true → faceThicknessOf (faceOf c d i) low high (tipBehindOf c fluid d i low high) ≡ tipOf (faceOf c d i .high) high (behindAt c fluid d (behindOf (c .grid) d i false)))
+unfolding tipBehindOf
+tip-extrapolated c fluid d i low high = (
+  λ a b. rw (a, b) (tip-low (faceOf c d i) low high (behindAt c fluid d (behindOf (c .grid) d i true)) a b),
+  λ a b. rw (a, b) (tip-high (faceOf c d i) low high (behindAt c fluid d (behindOf (c .grid) d i false)) a b),
+)
+
+-- Live leakage leaves or enters each of its two blocks as the fluid named for that block, and as no other.
+pub leakage-as-named : (c : Case) (fluid i : ℕ) → T (liveOf (c .grid) (c .slots) above i)
+    → (broughtOf (booksOf c fluid) true above i ≡ only (eqb (uppermostOf (watersOf (c .grid) (c .slots) i)) fluid) (negℤ (leakageAt c i)))
+    × (broughtOf (booksOf c fluid) false above i ≡ only (eqb (lowermostOf (watersOf (c .grid) (c .slots) (i + strideOf (c .grid) above))) fluid) (leakageAt c i))
+unfolding broughtOf booksOf namedOf
+leakage-as-named c fluid i live = rw (true-is {b = liveOf (c .grid) (c .slots) above i} live) (refl, refl)
