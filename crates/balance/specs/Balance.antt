@@ -34,9 +34,10 @@ balanceOf c fluid i = only (activeOf (c .slots) i) (balanceIn (c .grid) (booksOf
 abbrev pub balancesOf : Case → ℕ → Fluids
 balancesOf c i = fluidsOf (balanceOf c fresh i) (balanceOf c salt i)
 
--- the greatest balance without sign, litres a day, with room: seven flows, recharge, a well and storage
+-- the greatest balance without sign, litres a day: seven flows, recharge, pumpage and storage rate,
+-- 7 · 1,374,389,534,720 + 16,777,216,000 + 1,073,741,824 + 17,179,869,184,000
 abbrev pub mostBalance : ℕ
-mostBalance = 35184372088832
+mostBalance = 26818446884864
 
 -- what later parts require of a row of balances
 pub record Bounded (n : ℕ) (row : List ℤ) : Type 0 where

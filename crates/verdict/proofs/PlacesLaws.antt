@@ -2,7 +2,7 @@
 use mathlib.Core.Bool.{Bool, _&&_, false, not, true, true≢false}
 use mathlib.Core.List.{List}
 use mathlib.Core.Path.{_∙_, _≡_, ap, ap₂, refl}
-use Prim.Native.Nat.{_%_, _*_, _+_, _/_, _<_, _≤_, ℕ}
+use Prim.Native.Nat.{_%_, _*_, _+_, _/_, _<_, _≤_, suc, zero, ℕ}
 use native.Mathlib.Nat.{div-add-mod', div-lt-iff-lt-mul, mod-lt, mul-comm}
 use native.Mathlib.Omega.{arith}
 use lib.Arith.{digits-div, digits-mod}
@@ -10,6 +10,7 @@ use lib.Dec.{T}
 use lib.IntN.{_-ℤ_, negsuc, pos, ℤ}
 use lib.ListN.{length}
 use lib.Signed.{_<ℤ_, _≤ℤ_, ltZ}
+use Rattle.whole.specs.Sum.{count}
 use Rattle.whole.specs.Whole.{Abs, isZero}
 use Rattle.whole.proofs.LinearLaws.{#, from1, from2, linear, signed}
 use Rattle.whole.proofs.OrderLaws.{zero-is}
@@ -42,6 +43,18 @@ block-below n p l = div-lt-iff-lt-mul {k = 2} {x = p} {y = n} (omega arith) .1 (
 
 pub fluid-below : (p : ℕ) → p % 2 < 2
 fluid-below p = mod-lt p (omega arith)
+
+-- places that pass a test are counted fluid by fluid
+pub count-by-fluid : (n : ℕ) (test : ℕ → ℕ → Bool) → count (2 * n) (λ p. test (p % 2) (p / 2)) ≡ count n (test 0) + count n (test 1)
+unfolding count
+count-by-fluid zero test = refl
+count-by-fluid (suc n) test =
+    let e : 2 * suc n ≡ suc (suc (2 * n)) = omega arith in
+    let first : 2 * n ≡ 2 * n + 0 = omega arith in
+    let second : suc (2 * n) ≡ 2 * n + 1 = omega arith in
+    let fresh-told : test (2 * n % 2) (2 * n / 2) ≡ test 0 n = rw first (ap₂ test (fluid-of n 0 (omega arith)) (block-of n 0 (omega arith))) in
+    let salt-told : test (suc (2 * n) % 2) (suc (2 * n) / 2) ≡ test 1 n = rw second (ap₂ test (fluid-of n 1 (omega arith)) (block-of n 1 (omega arith))) in
+    rw (e, fresh-told, salt-told) (omega (arith, count-by-fluid n test))
 
 -- what a code counts at a block and a fluid, by place
 pub counted-by : (g : Grid) (slots : List ℤ) (β : ℕ → Fluids) (code i fluid : ℕ) → fluid < 2 → countedBy g slots β code (2 * i + fluid) ≡ countedAt g slots β code fluid i

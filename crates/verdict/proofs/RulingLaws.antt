@@ -3,11 +3,13 @@
 use mathlib.Core.Bool.{Bool, cond, false}
 use mathlib.Core.List.{List}
 use mathlib.Core.Logic.{_≢_}
-use mathlib.Core.Path.{_∙_, _≡_, ap, refl, sym}
+use mathlib.Core.Path.{_∙_, _≡_, ap, ap₂, refl, sym}
 use Prim.Native.Nat.{_%_, _*_, _+_, _-_, _/_, _<_, _≤_, suc, zero, ℕ}
+use native.Mathlib.Nat.{add-zero}
 use native.Mathlib.Omega.{arith}
 use lib.IntN.{pos, ℤ}
 use borrow.Author.Tests.{eq-eqb, lt-ltb, ne-eqb}
+use Rattle.whole.specs.Sum.{count}
 use Rattle.whole.proofs.SearchLaws.{count-none, first-most, first-none, first-same, most-same, none-counted, none-first}
 use Rattle.whole.proofs.SumLaws.{count-same}
 use Rattle.grid.specs.declared.Grid.{Grid}
@@ -19,7 +21,7 @@ use Rattle.verdict.specs.declared.Answer.{Answer}
 use Rattle.verdict.specs.declared.Verdict.{Verdict}
 use Rattle.verdict.specs.Places.{countedAt, countedBy, failsAt, freeSizeOf, movedAt, placesOf}
 use Rattle.verdict.specs.Ruling.{answered, blockNumber, byBalance, codeOf, concerning, countOf, firstPlace, largestOf, noVerdict, verdictBy}
-use Rattle.verdict.proofs.PlacesLaws.{block-below, block-of, counted-by, fluid-below, place-is}
+use Rattle.verdict.proofs.PlacesLaws.{block-below, block-of, count-by-fluid, counted-by, fluid-below, place-is}
 
 -- ---- by code
 module _ (g : Grid) (slots : List ℤ) (β : ℕ → Fluids) (code : ℕ) where
@@ -63,6 +65,10 @@ module _ (g : Grid) (slots : List ℤ) (β : ℕ → Fluids) where
   dry-once zero i e = e
   dry-once (suc fluid) i e = rw (ne-eqb (suc fluid) 0 (omega arith))
 
+  salt-undry : (i : ℕ) → countedAt g slots β 22 1 i ≡ false
+  unfolding countedAt
+  salt-undry i = refl
+
   pub failing-counted : (code fluid i : ℕ) → code ≢ 21 → code ≢ 22 → countedAt g slots β code fluid i ≡ failsAt g slots β fluid i
   unfolding countedAt
   failing-counted code fluid i h k = rw (ne-eqb code 21 h, ne-eqb code 22 k)
@@ -72,6 +78,14 @@ module _ (g : Grid) (slots : List ℤ) (β : ℕ → Fluids) where
   count-failing code h k =
       count-same (placesOf g) (countedBy g slots β code) (countedBy g slots β 23)
       (λ p l. failing-counted code (p % 2) (p / 2) h k ∙ sym (failing-counted 23 (p % 2) (p / 2) (λ e. absurd (omega arith)) (λ e. absurd (omega arith))))
+
+  -- a dry well stands at the fresh place of its block alone
+  pub dry-wells : countOf g slots β 22 ≡ count (blocksOf g) (dryAt g slots)
+  unfolding countOf
+  dry-wells =
+      count-by-fluid (blocksOf g) (countedAt g slots β 22)
+      ∙ ap₂ _+_ (count-same (blocksOf g) (countedAt g slots β 22 0) (dryAt g slots) (λ i l. dry-counted i)) (count-none (countedAt g slots β 22 1) (blocksOf g) (none-first (countedAt g slots β 22 1) (blocksOf g) (λ i l. salt-undry i)))
+      ∙ add-zero (count (blocksOf g) (dryAt g slots))
 
 -- ---- the code and the block of a first place
 pub code-found : (first : ℕ) → first ≢ 0 → 23 + (first - 1) % 2 ≡ codeOf first

@@ -10,6 +10,7 @@ use lib.Dec.{T}
 use lib.IntN.{pos, ℤ}
 use lib.Signed.{_≤ℤ_}
 use borrow.Author.Tests.{eq-eqb}
+use Rattle.whole.specs.Sum.{count}
 use Rattle.whole.proofs.OrderLaws.{≤ℤ-antisymm}
 use Rattle.whole.proofs.SearchLaws.{holds, most-none, true-is}
 use Rattle.grid.specs.declared.Grid.{Grid}
@@ -26,7 +27,7 @@ use Rattle.verdict.specs.Places.{countedAt, failsAt, freeAt, freeSizeOf,
 use Rattle.verdict.specs.Ruling.{answerOf, blockNumber, byBalance, countOf, firstPlace, largestOf, verdictBy, verdictOf}
 use Rattle.verdict.proofs.AcceptanceLaws.{bounds-all, dry-code, dry-none, failing-code, fails-counted, fails-none, first-as, first-told, largest-told, moved-code, moved-none, none-dry, none-fails, none-moved, passed-code, reached-all, told-first}
 use Rattle.verdict.proofs.PlacesLaws.{block-below, block-of, fluid-below, fluid-of, free-size-off, free-size-on, holds-within, size-least, still, unmoved, within-tolerance}
-use Rattle.verdict.proofs.RulingLaws.{Way, balance-block, balance-count, block-is, block-number, by-the-balances, count-failing, count-is, count-of-none, dry, failing, failing-counted, largest-is, moved, none-of-count, passed, way}
+use Rattle.verdict.proofs.RulingLaws.{Way, balance-block, balance-count, block-is, block-number, by-the-balances, count-failing, count-is, count-of-none, dry, dry-wells, failing, failing-counted, largest-is, moved, none-of-count, passed, way}
 
 module _ (g : Grid) (slots : List ℤ) (β : ℕ → Fluids) where
   -- ---- the code
@@ -155,6 +156,10 @@ module _ (g : Grid) (slots : List ℤ) (β : ℕ → Fluids) where
   -- Places that fail are counted in both fluids together, by the number 23.
   pub count-together : verdictBy g slots β .code ≢ 21 → verdictBy g slots β .code ≢ 22 → verdictBy g slots β .count ≡ countOf g slots β 23
   count-together h k = count-places ∙ count-failing g slots β (verdictBy g slots β .code) h k
+
+  -- Dry wells are counted block by block.
+  pub count-dry : verdictBy g slots β .code ≡ 22 → verdictBy g slots β .count ≡ count (blocksOf g) (dryAt g slots)
+  count-dry e = count-places ∙ ap (countOf g slots β) e ∙ dry-wells g slots β
 
   -- The count is 0 exactly where heads are accepted.
   pub count-zero : (verdictBy g slots β .count ≡ 0) ↔ (verdictBy g slots β .code ≡ 0)
