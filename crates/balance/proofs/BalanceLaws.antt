@@ -1,56 +1,38 @@
 -- Balances of a well-formed case: what ends in a block, and how great a balance can be. Assumes nothing.
 use mathlib.Core.Bool.{Bool, false, true}
 use mathlib.Core.List.{List}
-use mathlib.Core.Path.{_≡_, refl}
+use mathlib.Core.Path.{_∙_, _≡_, ap, refl, sym}
 use Prim.Native.Nat.{_*_, _-_, _<_, _≤_, ℕ}
 use native.Mathlib.Omega.{arith}
-use lib.Dec.{T, leb, leb→le, le→leb}
-use lib.IntN.{pos, ℤ}
+use lib.Dec.{leb}
+use lib.IntN.{ℤ}
 use lib.ListN.{length}
 use Rattle.whole.specs.Sum.{back, only, sum}
 use Rattle.whole.specs.Whole.{Abs}
 use Rattle.whole.proofs.RangeLaws.{leaf, ranges, within}
-use Rattle.whole.proofs.SearchLaws.{holds}
-use Rattle.whole.proofs.SumLaws.{only-abs, only-on, sum-in}
+use Rattle.whole.proofs.SumLaws.{only-abs, sum-in}
 use Rattle.grid.specs.Place.{Counted, blocksOf, previousOf, strideOf}
 use Rattle.grid.specs.Units.{above}
-use Rattle.grid.proofs.PlaceLaws.{next-previous, previous-low}
+use Rattle.grid.proofs.PlaceLaws.{previous-is}
 use Rattle.slices.specs.Slices.{Case}
 use Rattle.block.specs.Fluids.{fresh, salt}
 use Rattle.flow.specs.Litres.{mostFlow}
 use Rattle.wellformed.specs.Limits.{WellFormed}
-use Rattle.wellformed.specs.Links.{activeOf, liveOf}
-use Rattle.wellformed.proofs.LinksLaws.{live-next}
+use Rattle.wellformed.specs.Links.{activeOf}
 use Rattle.books.specs.Bookkeeping.{booksOf, broughtOf}
 use Rattle.books.specs.Rows.{filledOf}
-use Rattle.books.proofs.CarriedLaws.{brought-dead, brought-in}
+use Rattle.books.proofs.CarriedLaws.{brought-in, brought-next}
 use Rattle.books.proofs.RowsLaws.{filled-row}
 use Rattle.books.proofs.TermsLaws.{own-boundary-in, own-pumped-in, own-recharge-in, own-storage-in}
 use Rattle.balance.specs.Balance.{Bounded, balanceIn, balanceOf, balancesOf, flowsOf, mostBalance, throughOf}
 
--- ---- the link that ends in a block
-
-module _ (c : Case) (counted : Counted (c .grid)) (fluid d i : ℕ) (l : i < blocksOf (c .grid)) where
-  -- it is that of the block before
-  pub ending-there : T (previousOf (c .grid) d i) → back (strideOf (c .grid) d) (broughtOf (booksOf c fluid) false d) i ≡ broughtOf (booksOf c fluid) false d (i - strideOf (c .grid) d)
-  unfolding back
-  ending-there t = only-on (leb (strideOf (c .grid) d) i) (broughtOf (booksOf c fluid) false d (i - strideOf (c .grid) d)) (le→leb (strideOf (c .grid) d) i (previous-low (c .grid) counted d i l t))
-
-  dead : (T (previousOf (c .grid) d i) → ⊥) → strideOf (c .grid) d ≤ i → liveOf (c .grid) (c .slots) d (i - strideOf (c .grid) d) ≡ false
-  dead n h = go (liveOf (c .grid) (c .slots) d (i - strideOf (c .grid) d)) refl
-    where
-      go : (b : Bool) → liveOf (c .grid) (c .slots) d (i - strideOf (c .grid) d) ≡ b → b ≡ false
-      go true e = absurd (n (next-previous (c .grid) counted d i l h (live-next (c .grid) (c .slots) d (i - strideOf (c .grid) d) (holds e))))
-      go false e = refl
-
-  -- none ends in a block that none comes before
-  pub ending-none : (T (previousOf (c .grid) d i) → ⊥) → back (strideOf (c .grid) d) (broughtOf (booksOf c fluid) false d) i ≡ pos 0
-  unfolding back
-  ending-none n = go (leb (strideOf (c .grid) d) i) refl
-    where
-      go : (b : Bool) → leb (strideOf (c .grid) d) i ≡ b → only b (broughtOf (booksOf c fluid) false d (i - strideOf (c .grid) d)) ≡ pos 0
-      go true e = brought-dead c fluid d (i - strideOf (c .grid) d) false (dead n (leb→le (strideOf (c .grid) d) i (holds e)))
-      go false e = refl
+-- what the link that ends in a block brings is what the link of the block before brings, if one is there
+pub ending-is : (c : Case) → Counted (c .grid) → (fluid d i : ℕ) → i < blocksOf (c .grid)
+    → back (strideOf (c .grid) d) (broughtOf (booksOf c fluid) false d) i ≡ only (previousOf (c .grid) d i) (broughtOf (booksOf c fluid) false d (i - strideOf (c .grid) d))
+unfolding back
+ending-is c counted fluid d i l =
+    ap (only (leb (strideOf (c .grid) d) i)) (brought-next c fluid d (i - strideOf (c .grid) d) false)
+    ∙ sym (previous-is (c .grid) counted d i l (broughtOf (booksOf c fluid) false d))
 
 -- ---- how great
 

@@ -15,7 +15,7 @@ use Rattle.whole.proofs.SumLaws.{only-abs, only-zero}
 use Rattle.grid.specs.declared.Grid.{Grid}
 use Rattle.grid.specs.declared.place.Neighbour.{Neighbour}
 use Rattle.grid.specs.declared.place.Neighbour.the-variants.{At, Outside}
-use Rattle.grid.specs.Place.{behindOf, blocksOf, placeOf, strideOf, there}
+use Rattle.grid.specs.Place.{behindOf, blocksOf, nextOf, placeOf, strideOf, there}
 use Rattle.grid.specs.Units.{above, nextRow}
 use Rattle.grid.proofs.PlaceLaws.{behind-inside, next-inside}
 use Rattle.slots.specs.Slots.{blockOf}
@@ -35,7 +35,7 @@ use Rattle.wellformed.specs.Limits.{WellFormed, lowOf}
 use Rattle.wellformed.specs.Links.{activeOf, liveOf}
 use Rattle.wellformed.specs.Widths.{Placed, alongOf, areaOf, faceOf}
 use Rattle.wellformed.proofs.LimitsLaws.{face-passes}
-use Rattle.wellformed.proofs.LinksLaws.{live-high, live-low, live-next}
+use Rattle.wellformed.proofs.LinksLaws.{live-high, live-low, live-next, outside-dead}
 use Rattle.wellformed.proofs.WidthsLaws.{area-in, face-in, placed}
 use Rattle.books.specs.Blocks.{Slotted, watersOf}
 use Rattle.books.specs.Bookkeeping.{booksOf, broughtOf}
@@ -129,8 +129,8 @@ module _ (c : Case) (formed : WellFormed c) (fluid d i : ℕ) (l : i < blocksOf 
       lateral-in (faceOf c d i) low high (tipBehindOf c fluid d i (low .thickness) (high .thickness)) (face-in c (formed .judged) i l d h (live-next (c .grid) (c .slots) d i live)) low-side-in high-side-in q (passes h (tipBehindOf c fluid d i (low .thickness) (high .thickness)) q)
 
 module _ (c : Case) (formed : WellFormed c) (i : ℕ) (l : i < blocksOf (c .grid)) (live : T (liveOf (c .grid) (c .slots) above i)) where
-  pub through-in : In (pos 0) (pos mostConductance) (overAreaOf (lowOf c i .leakance) (areaOf c i))
-  through-in =
+  pub leakage-conductance-in : In (pos 0) (pos mostConductance) (overAreaOf (lowOf c i .leakance) (areaOf c i))
+  leakage-conductance-in =
       let ends = active-ends (c .grid) (c .slots) (slotted c (formed .judged)) i l (true-is (live-low (c .grid) (c .slots) above i live)) in
       record { low = over-area-in (lowOf c i .leakance) (areaOf c i) (ends .leakance) (area-in (placed c (formed .judged) i l)) .low; high = formed .leakage i l live }
 
@@ -140,7 +140,7 @@ module _ (c : Case) (formed : WellFormed c) (i : ℕ) (l : i < blocksOf (c .grid
       let s = slotted c (formed .judged) in
       let low = true-is (live-low (c .grid) (c .slots) above i live) in
       let upper = i + strideOf (c .grid) above in
-      leakage-in (c .grid) (overAreaOf (lowOf c i .leakance) (areaOf c i)) (watersAt (c .grid) (c .slots) i) (watersAt (c .grid) (c .slots) upper) (aquiferTopOf (lowOf c i)) (s .termed) through-in
+      leakage-in (c .grid) (overAreaOf (lowOf c i .leakance) (areaOf c i)) (watersAt (c .grid) (c .slots) i) (watersAt (c .grid) (c .slots) upper) (aquiferTopOf (lowOf c i)) (s .termed) leakage-conductance-in
       (waters-in (c .grid) (c .slots) s i l low)
       (waters-in (c .grid) (c .slots) s upper (far-inside c formed fresh above i l live) (true-is (live-high (c .grid) (c .slots) above i live)))
       (aquifer-top-in (lowOf c i) (active-ends (c .grid) (c .slots) s i l low))
@@ -197,3 +197,11 @@ module _ (c : Case) (fluid d i : ℕ) where
   unfolding broughtOf booksOf
   brought-dead true live = rw live (only-zero (countsOf (c .grid) (c .slots) fluid d i true))
   brought-dead false live = rw live (only-zero (countsOf (c .grid) (c .slots) fluid d i false))
+
+  -- nothing is brought by a link that leads outside
+  pub brought-next : (low : Bool) → broughtOf (booksOf c fluid) low d i ≡ only (nextOf (c .grid) d i) (broughtOf (booksOf c fluid) low d i)
+  brought-next low = go (nextOf (c .grid) d i) refl
+    where
+      go : (b : Bool) → nextOf (c .grid) d i ≡ b → broughtOf (booksOf c fluid) low d i ≡ only b (broughtOf (booksOf c fluid) low d i)
+      go true e = refl
+      go false e = brought-dead low (outside-dead (c .grid) (c .slots) d i e)

@@ -271,7 +271,7 @@ neighbours g counted d i j axis l m = (joined, touching)
     touching (inr h) = inr (link-beside g counted d j i axis m l (rw (h .1) (previous-next g counted d i l (h .0))) (omega (arith, h .1, previous-low g counted d i l (h .0))))
 
 -- ---- from blocks to links: what blocks get by the links that lead on from them and by those that end in them, summed over the blocks, is what links bring, summed over the links
-previous-is : (g : Grid) → Counted g → (d i : ℕ) → i < blocksOf g → (y : ℕ → ℤ)
+pub previous-is : (g : Grid) → Counted g → (d i : ℕ) → i < blocksOf g → (y : ℕ → ℤ)
     → only (previousOf g d i) (y (i - strideOf g d)) ≡ back (strideOf g d) (λ k. only (nextOf g d k) (y k)) i
 unfolding back
 previous-is g counted d i l y =

@@ -1,6 +1,7 @@
 -- What a live link tells. Assumes nothing.
-use mathlib.Core.Bool.{_&&_}
+use mathlib.Core.Bool.{_&&_, false}
 use mathlib.Core.List.{List}
+use mathlib.Core.Path.{_≡_}
 use Prim.Native.Nat.{_*_, _+_, _<_, _≤_, ℕ}
 use native.Mathlib.Omega.{arith}
 use lib.Dec.{T}
@@ -30,6 +31,11 @@ module _ (g : Grid) (slots : List ℤ) (d i : ℕ) (t : T (liveOf g slots d i)) 
 pub joined-live : (g : Grid) (slots : List ℤ) (d i : ℕ) → T (nextOf g d i) → T (activeOf slots i) → T (activeOf slots (i + strideOf g d)) → T (liveOf g slots d i)
 unfolding liveOf
 joined-live g slots d i next low high = joint (nextOf g d i) (activeOf slots i && activeOf slots (i + strideOf g d)) next (joint (activeOf slots i) (activeOf slots (i + strideOf g d)) low high)
+
+-- and one that leads outside is not
+pub outside-dead : (g : Grid) (slots : List ℤ) (d i : ℕ) → nextOf g d i ≡ false → liveOf g slots d i ≡ false
+unfolding liveOf
+outside-dead g slots d i e = rw e
 
 -- the slots reach to the end of a block that is inside
 pub reach : {n i most : ℕ} → 16 * n ≤ most → i < n → 16 * i + 16 ≤ most

@@ -1,17 +1,17 @@
 -- `ending` meets its contract: the link that ends in a block is that of the block before, if one is there. Assumes nothing.
-use mathlib.Core.Bool.{false, true≢false}
+use mathlib.Core.Bool.{false}
 use mathlib.Core.Path.{_∙_, _≡_, ap, sym}
 use Prim.Native.Nat.{_-_, ℕ}
 use native.Mathlib.Omega.{arith}
 use lib.Dec.{T}
 use borrow.Author.Needs.{needs}
 use Rattle.whole.proofs.RangeLaws.{answer}
-use Rattle.whole.proofs.SearchLaws.{holds, true-is}
+use Rattle.whole.proofs.SearchLaws.{holds}
 use Rattle.grid.specs.Place.{earlierOf, placeOf, previousOf}
 use Rattle.grid.proofs.PlaceLaws.{previous-low, previous-place, previous-told}
 use Rattle.slices.specs.Slices.{caseOf}
 use Rattle.books.specs.Bookkeeping.{booksOf, broughtOf}
-use Rattle.balance.proofs.BalanceLaws.{ending-none, ending-there}
+use Rattle.balance.proofs.BalanceLaws.{ending-is}
 use Rattle.balance.proofs.balances.ending.Statement.{statement}
 use Rattle.balance.proofs.balances.ending.Tie as tie
 
@@ -45,17 +45,14 @@ returns : tie.Need-returns
 returns c =
     let s = c .before .before .before .before .before in
     let k = caseOf (s .args .g) (s .args .columns .now) (s .args .rows .now) (s .args .slots .now) in
-    answer (c .brought .ok) (
-    c .brought .ensures
-    ∙ ap (λ (n : ℕ). broughtOf (booksOf k (s .args .fluid)) false (s .args .axis) (s .args .block - n)) (c .before .before .stride .ensures)
-    ∙ sym (ending-there k (s .pre .0 .judged .counted) (s .args .fluid) (s .args .axis) (s .args .block) (s .pre .1 .1 .0) (there (c .before .before .before)))
-    )
+    rw (ending-is k (s .pre .0 .judged .counted) (s .args .fluid) (s .args .axis) (s .args .block) (s .pre .1 .1 .0), previous (c .before .before .before .before) ∙ c .before .before .before .if1 .taken)
+    (answer (c .brought .ok) (c .brought .ensures ∙ ap (λ (n : ℕ). broughtOf (booksOf k (s .args .fluid)) false (s .args .axis) (s .args .block - n)) (c .before .before .stride .ensures)))
 
 returns-2 : tie.Need-returns-2
 returns-2 c =
     let s = c .before .before in
     let k = caseOf (s .args .g) (s .args .columns .now) (s .args .rows .now) (s .args .slots .now) in
-    sym (ending-none k (s .pre .0 .judged .counted) (s .args .fluid) (s .args .axis) (s .args .block) (s .pre .1 .1 .0) (λ t. absurd (true≢false (sym (true-is t) ∙ previous (c .before) ∙ c .if1 .left))))
+    rw (ending-is k (s .pre .0 .judged .counted) (s .args .fluid) (s .args .axis) (s .args .block) (s .pre .1 .1 .0), previous (c .before) ∙ c .if1 .left)
 
 pub ending-spec : {M : Type 1} → statement M
 ending-spec =

@@ -27,7 +27,7 @@ use Rattle.books.specs.Blocks.{Slotted}
 use Rattle.books.specs.Links.{leakageAt, watersAt}
 use Rattle.books.specs.Rows.{pairOf}
 use Rattle.books.proofs.BlocksLaws.{active-ends, slotted}
-use Rattle.books.proofs.CarriedLaws.{far-inside, through-in, waters-in}
+use Rattle.books.proofs.CarriedLaws.{far-inside, leakage-conductance-in, waters-in}
 use Rattle.books.proofs.links.leakage_flow.Statement.{statement}
 use Rattle.books.proofs.links.leakage_flow.Tie as tie
 
@@ -99,7 +99,7 @@ leakage-requires c κs =
     let k = caseOf (s .args .g) (s .args .columns .now) (s .args .rows .now) (s .args .slots .now) in (
       s .pre .0 .judged .termed,
       (
-        rw (conductance-told (c .before .before .before .before .before .before .before)) (through-in k (s .pre .0) (s .args .block) (s .pre .1 .1 .0) (joined s)),
+        rw (conductance-told (c .before .before .before .before .before .before .before)) (leakage-conductance-in k (s .pre .0) (s .args .block) (s .pre .1 .1 .0) (joined s)),
         (
           rw (below-told (c .before .before .before .before)) (waters-in (s .args .g) (s .args .slots .now) (ready s) (s .args .block) (s .pre .1 .1 .0) (low-active s)),
           (
