@@ -2,7 +2,7 @@
 use mathlib.Core.Bool.{Bool, false, true}
 use mathlib.Core.List.{List}
 use mathlib.Core.Path.{_∙_, _≡_, ap, refl, sym}
-use Prim.Native.Nat.{_*_, _-_, _<_, _≤_, ℕ}
+use Prim.Native.Nat.{_*_, _-_, _<_, _≤_, suc, zero, ℕ}
 use native.Mathlib.Omega.{arith}
 use lib.Dec.{leb}
 use lib.IntN.{ℤ}
@@ -15,12 +15,13 @@ use Rattle.grid.specs.Place.{Counted, blocksOf, previousOf, strideOf}
 use Rattle.grid.specs.Units.{above}
 use Rattle.grid.proofs.PlaceLaws.{previous-is}
 use Rattle.slices.specs.Slices.{Case}
-use Rattle.block.specs.Fluids.{fresh, salt}
+use Rattle.block.specs.Fluids.{fresh, inFluid, salt}
+use Rattle.block.proofs.FluidLaws.{in-fluid-in}
 use Rattle.flow.specs.Litres.{mostFlow}
 use Rattle.wellformed.specs.Limits.{WellFormed}
 use Rattle.wellformed.specs.Links.{activeOf}
 use Rattle.books.specs.Bookkeeping.{booksOf, broughtOf}
-use Rattle.books.specs.Rows.{filledOf}
+use Rattle.books.specs.Rows.{Row, filledOf, pairOf}
 use Rattle.books.proofs.CarriedLaws.{brought-in, brought-next}
 use Rattle.books.proofs.RowsLaws.{filled-row}
 use Rattle.books.proofs.TermsLaws.{own-boundary-in, own-pumped-in, own-recharge-in, own-storage-in}
@@ -76,8 +77,25 @@ module _ (c : Case) (formed : WellFormed c) (fluid i : ℕ) (l : i < blocksOf (c
       go true a = balance-in a
       go false a = within (search ranges depth 20) tt tt
 
--- a row that was filled with the balances of a case
-pub filled-bounded : (c : Case) → WellFormed c → (row : List ℤ) → 2 * blocksOf (c .grid) ≤ length row → Bounded (blocksOf (c .grid)) (filledOf (blocksOf (c .grid)) (balancesOf c) row)
-filled-bounded c formed row h =
-    let filled = filled-row (blocksOf (c .grid)) (balancesOf c) row h in
+-- ---- rows of balances
+
+pub row-bounded : (c : Case) → WellFormed c → (row : List ℤ) → Row (blocksOf (c .grid)) (balancesOf c) row → Bounded (blocksOf (c .grid)) row
+row-bounded c formed row filled =
     record { room = filled .room; each = λ i l. rw (filled .each i l) (record { of-fresh = balance-of-in c formed fresh i l; of-salt = balance-of-in c formed salt i l }) }
+
+pub filled-bounded : (c : Case) → WellFormed c → (row : List ℤ) → 2 * blocksOf (c .grid) ≤ length row → Bounded (blocksOf (c .grid)) (filledOf (blocksOf (c .grid)) (balancesOf c) row)
+filled-bounded c formed row h = row-bounded c formed (filledOf (blocksOf (c .grid)) (balancesOf c) row) (filled-row (blocksOf (c .grid)) (balancesOf c) row h)
+
+pub pair-in : {n i : ℕ} {row : List ℤ} (fluid : ℕ) → Bounded n row → i < n → Abs mostBalance (inFluid (pairOf row i) fluid)
+pair-in {n} {i} {row} fluid b l = in-fluid-in (pairOf row i) fluid (b .each i l)
+
+-- the balance of an active block
+pub balance-active : (c : Case) (fluid i : ℕ) → activeOf (c .slots) i ≡ true → balanceOf c fluid i ≡ balanceIn (c .grid) (booksOf c fluid) i
+unfolding balanceOf
+balance-active c fluid i a = rw a
+
+-- a fluid's balance among the two of a block
+pub balance-in-fluid : (c : Case) (fluid i : ℕ) → fluid < 2 → inFluid (balancesOf c i) fluid ≡ balanceOf c fluid i
+balance-in-fluid c zero i l = refl
+balance-in-fluid c (suc zero) i l = refl
+balance-in-fluid c (suc (suc fluid)) i l = absurd (omega arith)

@@ -1,23 +1,25 @@
 -- No face is skipped, of the books: two active blocks that touch are joined by a live link, and what it carries leaves the one and enters the
 -- other, in the fluids that document 01 names, tip faces included. That every link counts in the balances is in crate `balance`. Assumes
 -- nothing.
-use mathlib.Core.Bool.{false, true}
+use mathlib.Core.Bool.{false, not, true}
 use mathlib.Core.Path.{_∙_, _≡_, ap, refl}
-use Prim.Native.Nat.{_+_, _<_, _≤_, ℕ}
+use Prim.Native.Nat.{_+_, _<_, _≤_, suc, zero, ℕ}
 use native.Mathlib.Omega.{arith}
 use lib.Dec.{T, eqb}
 use lib.IntN.{negℤ, pos, ℤ}
 use lib.Signed.{ltZ}
+use mir.Syntax.{named}
 use Rattle.whole.specs.Sum.{only}
-use Rattle.whole.proofs.RangeLaws.{high, low}
 use Rattle.whole.proofs.SearchLaws.{true-is}
 use Rattle.grid.specs.Place.{Beside, behindOf, blocksOf, strideOf}
 use Rattle.grid.specs.Units.{above, nextRow}
 use Rattle.grid.proofs.PlaceLaws.{beside-link}
 use Rattle.slices.specs.Slices.{Case, Judged}
+use Rattle.block.specs.Fluids.{fresh, salt}
 use Rattle.flow.specs.Lateral.{faceThicknessOf, tipOf}
 use Rattle.flow.specs.Leakage.{lowermostOf, uppermostOf}
 use Rattle.flow.proofs.LateralLaws.{tip-high, tip-low}
+use Rattle.flow.proofs.LeakageLaws.{lowermost-is, uppermost-is}
 use Rattle.wellformed.specs.Links.{activeOf, liveOf}
 use Rattle.wellformed.specs.Widths.{faceOf}
 use Rattle.wellformed.proofs.LinksLaws.{joined-live}
@@ -58,3 +60,19 @@ pub leakage-as-named : (c : Case) (fluid i : ℕ) → T (liveOf (c .grid) (c .sl
     × (broughtOf (booksOf c fluid) false above i ≡ only (eqb (lowermostOf (watersOf (c .grid) (c .slots) (i + strideOf (c .grid) above))) fluid) (leakageAt c i))
 unfolding broughtOf booksOf namedOf
 leakage-as-named c fluid i live = rw (true-is {b = liveOf (c .grid) (c .slots) above i} live) (refl, refl)
+
+-- what is named is one of the two fluids
+either : (named : ℕ) → named ≤ salt → eqb named salt ≡ not (eqb named fresh)
+either zero h = refl
+either (suc zero) h = refl
+either (suc (suc n)) h = absurd (omega arith)
+
+-- The books of the two fluids share one leakage, and on each side of it the water counts as one of the two fluids alone.
+pub leakage-shared : (c : Case) (i : ℕ)
+    → (booksOf c salt .flow above i ≡ booksOf c fresh .flow above i)
+    × ((booksOf c salt .lowIs above i ≡ not (booksOf c fresh .lowIs above i)) × (booksOf c salt .highIs above i ≡ not (booksOf c fresh .highIs above i)))
+unfolding booksOf namedOf
+leakage-shared c i =
+    let waters = watersOf (c .grid) (c .slots) in
+    let upper : ℕ = i + strideOf (c .grid) above in
+    (refl, (either (uppermostOf (waters i)) (uppermost-is (waters i)), either (lowermostOf (waters upper)) (lowermost-is (waters upper))))

@@ -9,7 +9,7 @@ use lib.IntN.{negℤ, pos, ℤ}
 use lib.Signed.{_≤ℤ_, ltZ}
 use Rattle.whole.specs.Sum.{only}
 use Rattle.whole.specs.Whole.{Abs, In}
-use Rattle.whole.proofs.RangeLaws.{high, leaf, low, ranges, within}
+use Rattle.whole.proofs.RangeLaws.{leaf, ranges, within}
 use Rattle.whole.proofs.SearchLaws.{holds, true-is}
 use Rattle.whole.proofs.SumLaws.{only-abs, only-zero}
 use Rattle.grid.specs.declared.Grid.{Grid}
@@ -174,6 +174,11 @@ pub counts-lateral : (g : Grid) (slots : List ℤ) (fluid d i : ℕ) (low : Bool
 counts-lateral g slots fluid zero i low h = refl
 counts-lateral g slots fluid (suc zero) i low h = refl
 counts-lateral g slots fluid (suc (suc d)) i low h = absurd (omega arith)
+
+-- so that both books count a lateral face on both sides
+pub books-lateral : (c : Case) (fluid d i : ℕ) → d < above → (booksOf c fluid .lowIs d i ≡ true) × (booksOf c fluid .highIs d i ≡ true)
+unfolding booksOf
+books-lateral c fluid d i h = (counts-lateral (c .grid) (c .slots) fluid d i true h, counts-lateral (c .grid) (c .slots) fluid d i false h)
 
 pub carried-lateral : (c : Case) (fluid d i : ℕ) → d < above → carriedOf c fluid d i ≡ lateralAt c fluid d i
 carried-lateral c fluid zero i h = refl

@@ -1,28 +1,28 @@
 -- Laws of judging: the order of refusals, and what a case that is not refused gives. Assumes nothing.
-use mathlib.Core.Path.{_≡_, refl, sym, _∙_}
-use mathlib.Core.Bool.{Bool, true, false, not, cond, _&&_}
-use mathlib.Core.List.{List, [], _∷_, _++_}
-use Prim.Native.Nat.{ℕ, zero, suc, _*_, _<_, _≤_}
+use mathlib.Core.Bool.{Bool, _&&_, cond, false, not, true}
+use mathlib.Core.List.{List, [], _++_, _∷_}
+use mathlib.Core.Path.{_∙_, _≡_, ap, refl, sym}
+use Prim.Native.Nat.{_*_, _<_, _≤_, suc, zero, ℕ}
 use native.Mathlib.Decide.{ℕ-discrete}
 use native.Mathlib.Omega.{arith}
-use borrow.Author.Tests.{eq-eqb, ne-eqb, not-false}
-use lib.Dec.{T, leb, leb→le, eqb}
-use lib.IntN.{ℤ, pos}
+use lib.Dec.{T, eqb, leb, leb→le}
+use lib.IntN.{pos, ℤ}
 use lib.ListN.{length}
+use borrow.Author.Tests.{eq-eqb, ne-eqb, not-false}
 use Rattle.whole.specs.declared.ranges.Range.{Range}
-use Rattle.whole.specs.Ranges.{between, allWithin}
-use Rattle.whole.proofs.SearchLaws.{holds, both, first-none}
+use Rattle.whole.specs.Ranges.{allWithin, between}
+use Rattle.whole.proofs.SearchLaws.{both, first-none, holds}
 use Rattle.whole.proofs.WithinLaws.{within-at}
 use Rattle.grid.specs.declared.Grid.{Grid}
-use Rattle.grid.specs.Place.{blocksOf, topOf, Counted}
 use Rattle.grid.specs.Judging.{countsHold, termsHold}
+use Rattle.grid.specs.Place.{Counted, blocksOf, topOf}
 use Rattle.grid.proofs.JudgingLaws.{counts-counted, terms-termed}
-use Rattle.slots.specs.Units.{slotsEach}
-use Rattle.slots.specs.Slots.{partOf}
 use Rattle.slots.specs.Rules.{slotsHold}
+use Rattle.slots.specs.Slots.{partOf}
+use Rattle.slots.specs.Units.{slotsEach}
 use Rattle.slots.proofs.SlotsLaws.{slots-active, slots-inactive}
 use Rattle.slices.specs.declared.Refusal.{Refusal}
-use Rattle.slices.specs.Slices.{Case, none, refusal, unless, blaming, orElse, firstRefusal, roomHolds, widthsHold, faultOf, shapeOf, contentsOf, judgedOf, Roomy, Judged, mostWidth}
+use Rattle.slices.specs.Slices.{Case, Judged, Roomy, blaming, contentsOf, faultOf, firstRefusal, judgedOf, mostWidth, none, orElse, refusal, roomHolds, shapeOf, unless, widthsHold}
 
 -- ---- the order of refusals
 
@@ -72,6 +72,27 @@ or-none x y e = go (ℕ-discrete (x .number) 0)
     go : Dec (x .number ≡ 0) → (x .number ≡ 0) × (y .number ≡ 0)
     go (yes h) = (h, rw (eq-eqb (x .number) 0 h) at e)
     go (no h) = absurd (h (rw (ne-eqb (x .number) 0 h) at e))
+
+-- two runs together refuse nothing exactly where neither does
+pub none-apart : (xs ys : List Refusal) → firstRefusal (xs ++ ys) .number ≡ 0 → (firstRefusal xs .number ≡ 0) × (firstRefusal ys .number ≡ 0)
+none-apart xs ys e = or-none (firstRefusal xs) (firstRefusal ys) (rw (first-append xs ys) at e)
+
+pub none-together : (xs ys : List Refusal) → firstRefusal xs .number ≡ 0 → firstRefusal ys .number ≡ 0 → firstRefusal (xs ++ ys) .number ≡ 0
+none-together xs ys h k = ap (λ r. r .number) (first-append xs ys ∙ or-next (firstRefusal xs) (firstRefusal ys) h) ∙ k
+
+-- where nothing is refused, no block is named
+pub none-is : (xs : List Refusal) → firstRefusal xs .number ≡ 0 → firstRefusal xs ≡ none
+unfolding firstRefusal
+none-is [] e = refl
+none-is (x ∷ xs) e =
+    let h = or-none x (firstRefusal xs) e in
+    or-next x (firstRefusal xs) (h .0) ∙ none-is xs (h .1)
+
+-- one test alone
+pub unless-alone : (n : ℕ) (b : Bool) → (n ≡ 0 → ⊥) → unless n b ≡ firstRefusal (unless n b ∷ [])
+unfolding firstRefusal
+unless-alone n true h = sym (or-next none none refl)
+unless-alone n false h = sym (or-first (refusal n 0) none h)
 
 -- a refusal among those judged, wherever in their order
 pub data Among (x : Refusal) : List Refusal → Type 0 where
@@ -134,7 +155,7 @@ module _ (c : Case) (e : firstRefusal (contentsOf c) .number ≡ 0) where
 -- The law that a case which is not refused has the ranges that later parts require.
 pub judged-stands : (c : Case) → judgedOf c .number ≡ 0 → Judged c
 judged-stands c e =
-    let h = or-none (firstRefusal (shapeOf c)) (firstRefusal (contentsOf c)) (rw (first-append (shapeOf c) (contentsOf c)) at e) in
+    let h = none-apart (shapeOf c) (contentsOf c) e in
     let shape = shape-stands c (h .0) in
     let widths = widths-stand c (h .1) in
     let stands = faultless (c .grid) (c .slots) (no-fault c (h .1)) in

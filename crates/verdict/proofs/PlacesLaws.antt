@@ -11,7 +11,7 @@ use lib.IntN.{_-ℤ_, negsuc, pos, ℤ}
 use lib.ListN.{length}
 use lib.Signed.{_<ℤ_, _≤ℤ_, ltZ}
 use Rattle.whole.specs.Sum.{count}
-use Rattle.whole.specs.Whole.{Abs, isZero}
+use Rattle.whole.specs.Whole.{isZero}
 use Rattle.whole.proofs.LinearLaws.{#, from1, from2, linear, signed}
 use Rattle.whole.proofs.OrderLaws.{zero-is}
 use Rattle.whole.proofs.RangeLaws.{lt-false, lt-true}
@@ -21,11 +21,9 @@ use Rattle.grid.specs.declared.Grid.{Grid}
 use Rattle.slots.specs.Slots.{blockOf}
 use Rattle.block.specs.declared.Fluids.{Fluids}
 use Rattle.block.specs.Fluids.{inFluid, newHeads, oldHeads}
-use Rattle.block.proofs.FluidLaws.{in-fluid-in}
 use Rattle.wellformed.specs.Links.{activeOf}
-use Rattle.books.specs.Rows.{pairOf}
 use Rattle.books.specs.Terms.{fixedOf}
-use Rattle.balance.specs.Balance.{Bounded, mostBalance}
+use Rattle.balance.specs.Balance.{Bounded}
 use Rattle.verdict.specs.Places.{countedAt, countedBy, failsAt, freeAt, freeSizeOf, movedAt, sizeOf}
 
 -- ---- a place is a block and a fluid
@@ -77,9 +75,6 @@ free-size-is slots β i fluid l t = rw (fluid-of i fluid l, block-of i fluid l) 
 -- ---- what is in range gives at each block
 pub paired : {n i : ℕ} {row : List ℤ} → Bounded n row → i < n → 2 * i + 2 ≤ length row
 paired b l = omega (arith, b .room, l)
-
-pub pair-in : {n i : ℕ} {row : List ℤ} (fluid : ℕ) → Bounded n row → i < n → Abs mostBalance (inFluid (pairOf row i) fluid)
-pair-in {n} {i} {row} fluid b l = in-fluid-in (pairOf row i) fluid (b .each i l)
 
 -- ---- a number without its sign
 pub size-below : (z : ℤ) → z <ℤ pos 0 → pos 0 -ℤ z ≡ sizeOf z

@@ -8,8 +8,8 @@ use Rattle.whole.proofs.RangeLaws.{answer, read}
 use Rattle.block.specs.Fluids.{inFluid}
 use Rattle.books.specs.Rows.{pairOf}
 use Rattle.books.proofs.BlocksLaws.{sound}
+use Rattle.balance.proofs.BalanceLaws.{pair-in}
 use Rattle.verdict.specs.Places.{failsAt, freeAt, sizeOf}
-use Rattle.verdict.proofs.PlacesLaws.{pair-in}
 use Rattle.verdict.proofs.places.fails.Statement.{statement}
 use Rattle.verdict.proofs.places.fails.Tie as tie
 

@@ -9,8 +9,9 @@ use Rattle.grid.specs.Place.{blocksOf}
 use Rattle.block.specs.Fluids.{inFluid}
 use Rattle.books.specs.Rows.{pairOf}
 use Rattle.books.proofs.BlocksLaws.{sound}
+use Rattle.balance.proofs.BalanceLaws.{pair-in}
 use Rattle.verdict.specs.Places.{freeAt, freeSizeOf, sizeOf}
-use Rattle.verdict.proofs.PlacesLaws.{block-below, pair-in, paired}
+use Rattle.verdict.proofs.PlacesLaws.{block-below, paired}
 use Rattle.verdict.proofs.places.free_size.Statement.{statement}
 use Rattle.verdict.proofs.places.free_size.Tie as tie
 

@@ -1,0 +1,98 @@
+-- What a client is answered: zones without marks, refusals beside zeros, and lines beside no refusal. Assumes nothing.
+use mathlib.Core.Bool.{Bool, cond, false, true}
+use mathlib.Core.List.{List, [], _++_, _∷_}
+use mathlib.Core.Path.{_∙_, _≡_, ap, ap₂, refl}
+use Prim.Native.Nat.{_+_, _<_, _≤_, suc, zero, ℕ}
+use native.Mathlib.Decide.{ℕ-discrete}
+use native.Mathlib.Numerals.{add-one}
+use native.Mathlib.Omega.{arith}
+use lib.IntN.{pos, ℤ}
+use lib.ListN.{getD, getD-replicate, length, length-set, replicate, set}
+use lib.Seq.{getD-set-other, getD-set-same}
+use lib.Signed.{ltZ}
+use borrow.Author.Tests.{eq-eqb, ne-eqb}
+use Rattle.grid.specs.Place.{Counted, blocksOf}
+use Rattle.grid.specs.Units.{mostBlocks}
+use Rattle.slices.specs.declared.Refusal.{Refusal}
+use Rattle.slices.specs.Slices.{Case, blaming, firstRefusal, none, orElse, refusal}
+use Rattle.slices.proofs.SlicesLaws.{first-goes-on, first-stays}
+use Rattle.block.specs.Fluids.{fresh, salt}
+use Rattle.zone.specs.declared.lines.Lines.{Lines}
+use Rattle.zone.specs.Table.{linesBy}
+use Rattle.zone.specs.Zones.{markedOf}
+use Rattle.zone.proofs.LinesLaws.{lines-same}
+use Rattle.budget.specs.Answers.{eighteenOf, everywhere, markOf, marksOf, readOf, tabled}
+use Rattle.budget.specs.Tables.{flatOf, rowOf, tableTo}
+
+-- ---- marks put in
+
+pub marks-start : (z : ℕ → Bool) (row : List ℤ) → marksOf 0 z row ≡ row
+unfolding marksOf
+marks-start z row = refl
+
+pub marks-more : (n : ℕ) (z : ℕ → Bool) (row : List ℤ) → marksOf (n + 1) z row ≡ set (marksOf n z row) n (markOf z n)
+unfolding marksOf
+marks-more n z row = rw add-one
+
+marks-length : (n : ℕ) (z : ℕ → Bool) (row : List ℤ) → length (marksOf n z row) ≡ length row
+unfolding marksOf
+marks-length zero z row = refl
+marks-length (suc n) z row = length-set (marksOf n z row) n (markOf z n) ∙ marks-length n z row
+
+marks-at : (n : ℕ) (z : ℕ → Bool) (row : List ℤ) → n ≤ length row → (i : ℕ) → i < n → getD (marksOf n z row) i (pos 0) ≡ markOf z i
+unfolding marksOf
+marks-at zero z row h i l = absurd (omega arith)
+marks-at (suc n) z row h i l = step (ℕ-discrete i n) (marks-at n z row (omega (arith, h)) i)
+  where
+    step : Dec (i ≡ n) → (i < n → getD (marksOf n z row) i (pos 0) ≡ markOf z i) → getD (set (marksOf n z row) n (markOf z n)) i (pos 0) ≡ markOf z i
+    step (yes p) before = rw p (getD-set-same (marksOf n z row) n (markOf z n) (pos 0) (omega (arith, h, marks-length n z row)))
+    step (no q) before = getD-set-other (marksOf n z row) n i (markOf z n) (pos 0) q ∙ before (omega (arith, l, q))
+
+-- the blocks that are marked are those of the zone
+pub marks-marked : (n : ℕ) (z : ℕ → Bool) (row : List ℤ) → n ≤ length row → (i : ℕ) → i < n → markedOf (marksOf n z row) i ≡ z i
+unfolding markedOf
+marks-marked n z row h i l = rw (marks-at n z row h i l) (go (z i))
+  where
+    go : (b : Bool) → ltZ (pos 0) (cond b (pos 1) (pos 0)) ≡ b
+    go true = refl
+    go false = refl
+
+pub ones-marked : (i : ℕ) → i < mostBlocks → markedOf (replicate mostBlocks (pos 1)) i ≡ everywhere i
+unfolding markedOf
+ones-marked i l = rw (getD-replicate mostBlocks i (pos 1) (pos 0) l)
+
+-- and only they count
+pub eighteen-same : (c : Case) → Counted (c .grid) → (z w : ℕ → Bool) → ((i : ℕ) → i < blocksOf (c .grid) → z i ≡ w i) → eighteenOf c z ≡ eighteenOf c w
+unfolding eighteenOf
+eighteen-same c counted z w alike = ap₂ (λ a b. rowOf a ++ rowOf b) (lines-same c counted z w alike fresh) (lines-same c counted z w alike salt)
+
+-- ---- answers, judged run by run
+
+module _ (xs ys : List Refusal) (r : Refusal) (lines : List ℤ) (told : r ≡ firstRefusal xs) where
+  pub tabled-stays : (r .number ≡ 0 → ⊥) → record { refusal = r; lines = replicate 18 (pos 0) } ≡ tabled (firstRefusal (xs ++ ys)) lines
+  tabled-stays h = rw (← first-stays xs ys r told h, ne-eqb (r .number) 0 h)
+
+  pub tabled-goes-on : r .number ≡ 0 → tabled (firstRefusal ys) lines ≡ tabled (firstRefusal (xs ++ ys)) lines
+  tabled-goes-on h = ap (λ q. tabled q lines) (first-goes-on xs ys r told (firstRefusal ys) h refl)
+
+pub dry-tabled : (b : ℕ) (lines : List ℤ) → 0 < b → record { refusal = refusal 13 b; lines = replicate 18 (pos 0) } ≡ tabled (firstRefusal (blaming 13 b ∷ [])) lines
+unfolding firstRefusal orElse
+dry-tabled zero lines l = absurd (omega arith)
+dry-tabled (suc b) lines l = refl
+
+pub wet-tabled : (b : ℕ) (lines : List ℤ) → b ≤ 0 → record { refusal = none; lines = lines } ≡ tabled (firstRefusal (blaming 13 b ∷ [])) lines
+unfolding firstRefusal orElse
+wet-tabled zero lines l = refl
+wet-tabled (suc b) lines l = absurd (omega arith)
+
+-- the table of all blocks, laid flat
+pub flat-table : (c : Case) (z : ℕ → Bool) → flatOf (tableTo (blocksOf (c .grid)) c z) ≡ eighteenOf c z
+unfolding flatOf tableTo eighteenOf linesBy
+flat-table c z = refl
+
+-- where nothing is refused, the lines of a fluid are read back as they were put in
+pub read-lines : (r : Refusal) (f : ℕ → Lines) → r .number ≡ 0 → (fluid : ℕ) → fluid < 2 → readOf (tabled r (rowOf (f fresh) ++ rowOf (f salt))) fluid ≡ f fluid
+unfolding readOf rowOf
+read-lines r f e zero l = rw (eq-eqb (r .number) 0 e)
+read-lines r f e (suc zero) l = rw (eq-eqb (r .number) 0 e)
+read-lines r f e (suc (suc fluid)) l = absurd (omega arith)

@@ -1,0 +1,61 @@
+-- `account` meets its contract: both rows are filled with what the table reads. Assumes nothing.
+use mathlib.Core.Path.{_∙_, ap}
+use Prim.Native.Nat.{_*_, _≤_}
+use native.Mathlib.Omega.{arith}
+use borrow.Author.Needs.{needs}
+use Rattle.grid.specs.Place.{blocksOf}
+use Rattle.slices.specs.Slices.{Case, caseOf, none}
+use Rattle.books.specs.Blocks.{Slotted, Watered, watersOf}
+use Rattle.books.specs.Rows.{Row}
+use Rattle.books.proofs.BlocksLaws.{slotted}
+use Rattle.books.proofs.RowsLaws.{filled-row}
+use Rattle.balance.specs.Balance.{balancesOf}
+use Rattle.zone.specs.Zones.{markedOf}
+use Rattle.budget.specs.Answers.{eighteenOf}
+use Rattle.budget.specs.Tables.{flatOf}
+use Rattle.budget.proofs.AnswersLaws.{dry-tabled, flat-table, wet-tabled}
+use Rattle.budget.proofs.account.Statement.{statement}
+use Rattle.budget.proofs.account.Tie as tie
+
+abbrev caseIn : tie.Start → Case
+caseIn c = caseOf (c .args .g) (c .args .columns .now) (c .args .rows .now) (c .args .slots .now)
+
+room : (c : tie.Start) → 2 * blocksOf (c .args .g) ≤ 1024
+room c = omega (arith, c .pre .0 .judged .counted .blocks-most)
+
+ready : (c : tie.Start) → Slotted (c .args .g) (c .args .slots .now)
+ready c = slotted (caseIn c) (c .pre .0 .judged)
+
+watered : (c : tie.After-fill-waters) → Watered (c .before .before .args .g) (c .before .before .args .slots .now) (c .fill-waters .last .1 .1 .0)
+watered c = rw (c .fill-waters .ensures) (filled-row (blocksOf (c .before .before .args .g)) (watersOf (c .before .before .args .g) (c .before .before .args .slots .now)) _ (room (c .before .before)))
+
+returns : tie.Need-returns
+returns c = rw (← c .before .first-dry .ensures) (dry-tabled (c .before .first-dry .result) (eighteenOf (caseIn (c .before .before .before .before .before .before)) (markedOf (c .before .before .before .before .before .before .args .marks .now))) (c .if1 .taken))
+
+balanced : (c : tie.After-fill-balances) → Row (blocksOf (c .before .before .before .before .before .before .before .before .before .args .g)) (balancesOf (caseIn (c .before .before .before .before .before .before .before .before .before))) (c .fill-balances .last .1 .1 .1 .1 .1 .0)
+balanced c = rw (c .fill-balances .ensures) (filled-row (blocksOf (c .before .before .before .before .before .before .before .before .before .args .g)) (balancesOf (caseIn (c .before .before .before .before .before .before .before .before .before))) _ (room (c .before .before .before .before .before .before .before .before .before)))
+
+returns-2 : tie.Need-returns-2
+returns-2 c =
+    let z = markedOf (c .before .before .before .before .before .before .before .before .before .before .before .before .before .before .args .marks .now) in
+    let lines = c .flat .ensures ∙ ap flatOf (c .before .table .ensures) ∙ flat-table (caseIn (c .before .before .before .before .before .before .before .before .before .before .before .before .before .before)) z in
+    (λ k. record { refusal = none; lines = lines k })
+    ∙ rw (← c .before .before .before .before .before .before .before .before .before .first-dry .ensures) (wet-tabled (c .before .before .before .before .before .before .before .before .before .first-dry .result) (eighteenOf (caseIn (c .before .before .before .before .before .before .before .before .before .before .before .before .before .before)) z) (omega (arith, c .before .before .before .before .before .before .before .before .if1 .left)))
+
+pub account-spec : {M : Type 1} → statement M
+account-spec =
+    tie.close
+    (tie.spec
+    (λ c. search needs)
+    (λ c κs. (ready (c .before), room (c .before)))
+    (λ c. search needs)
+    (λ c κs. (ready (c .before .before .before .before), watered (c .before .before)))
+    returns
+    (λ c. search needs)
+    (λ c. search needs)
+    (λ c κs. (c .before .before .before .before .before .before .before .before .pre .0, (watered (c .before .before .before .before .before .before), room (c .before .before .before .before .before .before .before .before))))
+    (λ c. search needs)
+    (λ c. search needs)
+    (λ c κs. record { formed = c .before .before .before .before .before .before .before .before .before .before .before .before .pre .0; watered = watered (c .before .before .before .before .before .before .before .before .before .before); balanced = balanced (c .before .before .before); reach = c .before .before .before .before .before .before .before .before .before .before .before .before .pre .1 })
+    (λ c κs. search needs)
+    returns-2)

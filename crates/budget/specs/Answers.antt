@@ -1,0 +1,108 @@
+-- The table that a client is answered, and what it is refused with (document 01, "Refusal numbers").
+use mathlib.Core.Bool.{Bool, cond, true}
+use mathlib.Core.List.{List, [], _++_, _∷_}
+use Prim.Native.Nat.{_*_, _+_, suc, zero, ℕ}
+use lib.Dec.{eqb, leb}
+use lib.IntN.{pos, ℤ}
+use lib.ListN.{getD, length, replicate, set}
+use Rattle.whole.specs.Ranges.{allWithin, between}
+use Rattle.whole.specs.Search.{firstOf}
+use Rattle.grid.specs.declared.Grid.{Grid}
+use Rattle.grid.specs.Place.{blocksOf, placeOf}
+use Rattle.slices.specs.declared.Refusal.{Refusal}
+use Rattle.slices.specs.Slices.{Case, blaming, contentsOf, firstRefusal, shapeOf, unless}
+use Rattle.block.specs.Fluids.{fresh, salt}
+use Rattle.wellformed.specs.Limits.{limitsOf}
+use Rattle.books.specs.Blocks.{dryAt}
+use Rattle.zone.specs.declared.lines.Lines.{Lines}
+use Rattle.zone.specs.Table.{linesOf}
+use Rattle.zone.specs.Zones.{markedOf}
+use Rattle.budget.specs.declared.Answer.{Answer}
+use Rattle.budget.specs.Tables.{rowOf}
+
+-- ---- refusals
+
+-- 7: "a lent slice is too short", of the marks
+abbrev pub marksReach : Grid → List ℤ → Bool
+marksReach g marks = leb (blocksOf g) (length marks)
+
+-- 11: "a mark is neither 0 nor 1"
+abbrev pub marksHold : Grid → List ℤ → Bool
+marksHold g marks = allWithin (between (pos 0) (pos 1)) marks (blocksOf g)
+
+-- 13: "a table is asked for with a dry well"; "Refusals 6, 9, 10, 13 and 14 name the first block at fault"
+unfoldable pub dryOf : Grid → List ℤ → ℕ
+dryOf g slots = firstOf (blocksOf g) (dryAt g slots)
+
+abbrev pub wellChecks : Case → List Refusal
+wellChecks c = blaming 13 (dryOf (c .grid) (c .slots)) ∷ []
+
+-- "Slices are judged 3, 7, 4, 5, 6, 9, 10; then, for a table, 11", with the marks' 7 in 7's place
+unfoldable pub zoneChecks : Case → List ℤ → List Refusal
+zoneChecks c marks =
+    shapeOf c ++ (unless 7 (marksReach (c .grid) marks) ∷ [])
+    ++ ((contentsOf c ++ limitsOf c) ++ (unless 11 (marksHold (c .grid) marks) ∷ []))
+
+-- "11 before 13"
+abbrev pub zoneRefusal : Case → List ℤ → Refusal
+zoneRefusal c marks = firstRefusal (zoneChecks c marks ++ wellChecks c)
+
+-- and where no marks are lent
+abbrev pub caseRefusal : Case → Refusal
+caseRefusal c = firstRefusal (((shapeOf c ++ contentsOf c) ++ limitsOf c) ++ wellChecks c)
+
+-- ---- zones without marks
+
+-- one layer: "Layer 1 is the deepest."
+unfoldable pub layerZone : Grid → ℕ → ℕ → Bool
+layerZone g layer i = eqb (placeOf g i .layer + 1) layer
+
+-- the whole
+abbrev pub everywhere : ℕ → Bool
+everywhere i = true
+
+-- the mark of a block, and marks put in for the blocks below n; the rest is as it was
+abbrev pub markOf : (ℕ → Bool) → ℕ → ℤ
+markOf z i = cond (z i) (pos 1) (pos 0)
+
+unfoldable pub marksOf : ℕ → (ℕ → Bool) → List ℤ → List ℤ
+marksOf zero z row = row
+marksOf (suc n) z row = set (marksOf n z row) n (markOf z n)
+
+-- ---- answers
+
+-- the eighteen lines of a zone, fresh before salt
+unfoldable pub eighteenOf : Case → (ℕ → Bool) → List ℤ
+eighteenOf c z = rowOf (linesOf c z fresh) ++ rowOf (linesOf c z salt)
+
+-- a refusal, or lines beside none; the lines beside a refusal are all 0
+abbrev pub tabled : Refusal → List ℤ → Answer
+tabled r lines = record { refusal = r; lines = cond (eqb (r .number) 0) lines (replicate 18 (pos 0)) }
+
+-- of a zone by its marks, of a layer, of the whole
+unfoldable pub zoneAnswer : Case → List ℤ → Answer
+zoneAnswer c marks = tabled (zoneRefusal c marks) (eighteenOf c (markedOf marks))
+
+unfoldable pub layerAnswer : Case → ℕ → Answer
+layerAnswer c layer = tabled (caseRefusal c) (eighteenOf c (layerZone (c .grid) layer))
+
+unfoldable pub wholeAnswer : Case → Answer
+wholeAnswer c = tabled (caseRefusal c) (eighteenOf c everywhere)
+
+-- the nine lines of a fluid, read from the eighteen of an answer
+unfoldable pub readOf : Answer → ℕ → Lines
+readOf a fluid =
+    record {
+      storage = at 0;
+      «edge_in» = at 1;
+      «edge_out» = at 2;
+      converted = at 3;
+      wells = at 4;
+      recharge = at 5;
+      boundary = at 6;
+      supply = at 7;
+      error = at 8;
+    }
+  where
+    at : ℕ → ℤ
+    at line = getD (a .lines) (9 * fluid + line) (pos 0)

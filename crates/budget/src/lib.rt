@@ -1,0 +1,197 @@
+// The water account of a zone (document 01, "Balance, verdict, table"): its table of two rows of nine lines, litres a day, and what it is
+// refused with.
+pub mod table;
+
+ghost use mathlib.Core.Path.{_≡_};
+ghost use Prim.Native.Nat.{_≤_, _<_};
+ghost use lib.ListN.{length};
+ghost use Rattle.grid.specs.Place.{Counted, blocksOf};
+ghost use Rattle.slices.specs.Slices.{caseOf, firstRefusal};
+ghost use Rattle.wellformed.specs.Limits.{WellFormed};
+ghost use Rattle.books.specs.Blocks.{Slotted, Watered};
+ghost use Rattle.zone.specs.Zones.{markedOf};
+ghost use Rattle.budget.specs.Answers.{
+  dryOf,
+  wellChecks,
+  zoneChecks,
+  layerZone,
+  markOf,
+  marksOf,
+  eighteenOf,
+  tabled,
+  zoneAnswer,
+  layerAnswer,
+  wholeAnswer,
+};
+use balance::balances::fill_balances;
+use books::waters::fill_waters;
+use books::waters::is_dry_at;
+use grid::Grid;
+use grid::place::blocks;
+use grid::place::place_of;
+use grid::units::MOST_BLOCKS;
+use slices::Refusal;
+use slices::shape;
+use table::flat;
+use table::table;
+use wellformed::check_slices;
+use whole::ranges::Range;
+use whole::ranges::all_within;
+
+// A refusal, or beside number 0 the table's eighteen lines: nine of fresh water and then nine of salt water, in the order "storage, edge in,
+// edge out, converted, wells, recharge, boundary, supply, error", litres a day. The lines beside a refusal are all 0.
+pub struct Answer {
+    pub refusal: Refusal,
+    pub lines: [i64; 18],
+}
+
+// Two numbers for each block of the largest grid.
+const ROW: usize = 2 * MOST_BLOCKS;
+
+// "A zone is a mark 0 or 1 per block."
+const MARKS: Range = Range { lower: 0, upper: 1 };
+
+// 13: "a table is asked for with a dry well": the first block at fault, or 0. Inner: the slots are in range and the row holds their
+// thicknesses.
+fn first_dry(g: Grid, slots: &[i64], waters: &[i64]) -> usize
+    requires { ⌜ Slotted g (now slots) ⌝ }
+    requires { ⌜ Watered g (now slots) (now waters) ⌝ }
+    ensures { λ r. ⌜ r ≡ dryOf g (now (slots .entry)) ⌝ }
+{
+    let total = blocks(g);
+    for block in 0..total {
+        if is_dry_at(g, slots, waters, block) {
+            return block + 1;
+        }
+    }
+    0
+}
+
+// What a zone of a case in slices is refused with before its wells are looked at: 3, 7, the marks' too, 4, 5, 6, 9, 10, then 11.
+fn judge_zone(g: Grid, columns: &[i64], rows: &[i64], slots: &[i64], marks: &[i64]) -> Refusal
+    ensures { λ r. ⌜ r ≡ firstRefusal (zoneChecks (caseOf g (now (columns .entry)) (now (rows .entry)) (now (slots .entry))) (now (marks .entry))) ⌝ }
+{
+    let first = shape(g, columns, rows, slots);
+    if first.number != 0 {
+        return first;
+    }
+    if marks.len() < blocks(g) {
+        return Refusal {
+            number: 7,
+            block: 0,
+        };
+    }
+    let refusal = check_slices(g, columns, rows, slots);
+    if refusal.number != 0 {
+        return refusal;
+    }
+    if !all_within(marks, blocks(g), MARKS) {
+        return Refusal {
+            number: 11,
+            block: 0,
+        };
+    }
+    Refusal {
+        number: 0,
+        block: 0,
+    }
+}
+
+// The table of a zone of a well-formed case, or 13 with the first dry block. Thicknesses and balances of every block are worked out once, into
+// two rows of two numbers to a block. Inner: the case is well formed and the marks reach over the grid.
+fn account(g: Grid, columns: &[i64], rows: &[i64], slots: &[i64], marks: &[i64]) -> Answer
+    requires { ⌜ WellFormed (caseOf g (now columns) (now rows) (now slots)) ⌝ }
+    requires { ⌜ blocksOf g ≤ length (now marks) ⌝ }
+    ensures { λ r. ⌜ r ≡ tabled (firstRefusal (wellChecks (caseOf g (now (columns .entry)) (now (rows .entry)) (now (slots .entry))))) (eighteenOf (caseOf g (now (columns .entry)) (now (rows .entry)) (now (slots .entry))) (markedOf (now (marks .entry)))) ⌝ }
+{
+    let mut waters = [0i64; ROW];
+    fill_waters(g, slots, &mut waters);
+    let block = first_dry(g, slots, &waters);
+    if 0 < block {
+        return Answer {
+            refusal: Refusal { number: 13, block },
+            lines: [0i64; 18],
+        };
+    }
+    let mut balances = [0i64; ROW];
+    fill_balances(g, columns, rows, slots, &waters, &mut balances);
+    let both = table(g, columns, rows, slots, &waters, &balances, marks);
+    Answer {
+        refusal: Refusal {
+            number: 0,
+            block: 0,
+        },
+        lines: flat(both),
+    }
+}
+
+// The table of a zone of a case in slices, or what it is refused with: 3, 7, 4, 5, 6, 9, 10, 11 or 13, and the block that the refusal names.
+// `columns` and `rows` are the widths in metres; `marks` has a 1 for each block of the zone and a 0 for each other. Any numbers, and slices of
+// any length, are answered.
+pub fn zone_table(g: Grid, columns: &[i64], rows: &[i64], slots: &[i64], marks: &[i64]) -> Answer
+    ensures { λ r. ⌜ r ≡ zoneAnswer (caseOf g (now (columns .entry)) (now (rows .entry)) (now (slots .entry))) (now (marks .entry)) ⌝ }
+{
+    let refusal = judge_zone(g, columns, rows, slots, marks);
+    if refusal.number != 0 {
+        return Answer {
+            refusal,
+            lines: [0i64; 18],
+        };
+    }
+    account(g, columns, rows, slots, marks)
+}
+
+// The mark of a block in the zone of a layer, counted from 1 at the bottom. Inner: the counts are in range and the block is inside.
+fn layer_mark(g: Grid, layer: usize, block: usize) -> i64
+    requires { ⌜ Counted g ⌝ }
+    requires { ⌜ block < blocksOf g ⌝ }
+    ensures { λ r. ⌜ r ≡ markOf (layerZone g layer) block ⌝ }
+{
+    let place = place_of(g, block);
+    if place.layer + 1 == layer { 1 } else { 0 }
+}
+
+// Puts in the marks of a layer. Inner: the counts are in range and the marks reach over the grid.
+fn mark_layer(g: Grid, layer: usize, marks: &mut [i64])
+    requires { ⌜ Counted g ⌝ }
+    requires { ⌜ blocksOf g ≤ length (now marks) ⌝ }
+    ensures { λ r. ⌜ now (marks .exit) ≡ marksOf (blocksOf g) (layerZone g layer) (now (marks .entry)) ⌝ }
+{
+    let total = blocks(g);
+    for block in 0..total {
+        let mark = layer_mark(g, layer, block);
+        marks[block] = mark;
+    }
+}
+
+// The table of one layer of a case in slices, counted from 1 at the bottom, or what the case is refused with: 3, 7, 4, 5, 6, 9, 10 or 13. A
+// layer that is not there has no blocks, and a table of zeros.
+pub fn layer_table(g: Grid, columns: &[i64], rows: &[i64], slots: &[i64], layer: usize) -> Answer
+    ensures { λ r. ⌜ r ≡ layerAnswer (caseOf g (now (columns .entry)) (now (rows .entry)) (now (slots .entry))) layer ⌝ }
+{
+    let refusal = check_slices(g, columns, rows, slots);
+    if refusal.number != 0 {
+        return Answer {
+            refusal,
+            lines: [0i64; 18],
+        };
+    }
+    let mut marks = [0i64; MOST_BLOCKS];
+    mark_layer(g, layer, &mut marks);
+    account(g, columns, rows, slots, &marks)
+}
+
+// The table of the whole grid of a case in slices, or what the case is refused with: 3, 7, 4, 5, 6, 9, 10 or 13.
+pub fn whole_table(g: Grid, columns: &[i64], rows: &[i64], slots: &[i64]) -> Answer
+    ensures { λ r. ⌜ r ≡ wholeAnswer (caseOf g (now (columns .entry)) (now (rows .entry)) (now (slots .entry))) ⌝ }
+{
+    let refusal = check_slices(g, columns, rows, slots);
+    if refusal.number != 0 {
+        return Answer {
+            refusal,
+            lines: [0i64; 18],
+        };
+    }
+    let marks = [1i64; MOST_BLOCKS];
+    account(g, columns, rows, slots, &marks)
+}

@@ -1,0 +1,225 @@
+-- Lines of a zone: what crosses its edge is what its blocks gain by flows, and marks beyond the grid do not matter. Assumes nothing.
+use mathlib.Core.Bool.{Bool, _&&_, false, not, true}
+use mathlib.Core.Logic.{⊎-elim}
+use mathlib.Core.Path.{_∙_, _≡_, ap, ap₂, refl, sym}
+use Prim.Native.Nat.{_+_, _<_, ℕ}
+use native.Mathlib.Omega.{arith}
+use lib.Dec.{T}
+use lib.IntN.{+ℤ-idl, +ℤ-idr, _+ℤ_, _-ℤ_, negℤ, pos, ℤ}
+use lib.Signed.{_<ℤ_, _≤ℤ_}
+use types.Kit.{some}
+use Rattle.whole.specs.Sum.{back, only, sum}
+use Rattle.whole.proofs.LinearLaws.{#, from1, linear, signed}
+use Rattle.whole.proofs.OrderLaws.{<ℤ-≤ℤ, maxℤ-left, maxℤ-right, ≤ℤ-or-<}
+use Rattle.whole.proofs.SearchLaws.{both, holds, joint, same-test}
+use Rattle.whole.proofs.SumLaws.{only-add, only-back, only-off, only-sum, only-zero, sum-add, sum-move, sum-neg, sum-same, sum-swap}
+use Rattle.grid.specs.declared.Grid.{Grid}
+use Rattle.grid.specs.Place.{Counted, blocksOf, strideOf}
+use Rattle.grid.specs.Units.{above}
+use Rattle.grid.proofs.PlaceLaws.{next-inside}
+use Rattle.slices.specs.Slices.{Case, none}
+use Rattle.wellformed.specs.Links.{activeOf, liveOf}
+use Rattle.wellformed.proofs.LinksLaws.{live-high, live-low, live-next}
+use Rattle.books.specs.Bookkeeping.{Books, booksOf, broughtOf}
+use Rattle.books.proofs.CarriedLaws.{books-lateral, brought-dead}
+use Rattle.balance.specs.Balance.{balanceIn, flowsOf, throughOf}
+use Rattle.zone.specs.Accounts.{crossed}
+use Rattle.zone.specs.Exchange.{atEdge, changes, convertedAt, edgeOf, edgesOf, inflowOf, outflowOf}
+use Rattle.zone.specs.Holdings.{ownIn, remainderOf}
+use Rattle.zone.specs.Table.{linesBy, linesOf, termsOf, totalsOf}
+use Rattle.zone.specs.Zones.{differ, inZone}
+use Rattle.zone.proofs.TermLaws.{no-gain}
+
+-- ---- one link
+
+-- what flows in less what flows out is what is gained
+in-less-out : (gain : ℤ) → inflowOf gain -ℤ outflowOf gain ≡ gain
+in-less-out gain = ⊎-elim gained lost (≤ℤ-or-< (pos 0) gain)
+  where
+    gained : pos 0 ≤ℤ gain → inflowOf gain -ℤ outflowOf gain ≡ gain
+    gained h =
+        let none : negℤ gain ≤ℤ pos 0 = from1 h (search (signed, # gain) depth 30) (omega arith) in
+        ap₂ _-ℤ_ (maxℤ-right h) (maxℤ-left none) ∙ +ℤ-idr gain
+
+    lost : gain <ℤ pos 0 → inflowOf gain -ℤ outflowOf gain ≡ gain
+    lost h =
+        let some : pos 0 ≤ℤ negℤ gain = from1 h (search (signed, # gain) depth 30) (omega arith) in
+        ap₂ _-ℤ_ (maxℤ-left (<ℤ-≤ℤ h)) (maxℤ-right some) ∙ linear (search (signed, # gain) depth 30) (omega arith)
+
+-- what it brings to its marked sides, and what they gain by a change of fluid where both are marked
+toMarked : Grid → Books → (ℕ → Bool) → ℕ → ℕ → ℤ
+toMarked g F z d i = only (z i) (broughtOf F true d i) +ℤ only (z (i + strideOf g d)) (broughtOf F false d i)
+
+turnedAt : Grid → Books → (ℕ → Bool) → ℕ → ℕ → ℤ
+turnedAt g F z d i = only ((z i && z (i + strideOf g d)) && differ (F .lowIs d i) (F .highIs d i)) (broughtOf F true d i +ℤ broughtOf F false d i)
+
+-- a and b are the marks of its low and its high side, and x is what it brings to each
+by-marks : (a b turns : Bool) (x : Bool → ℤ) → (T (not turns) → x true +ℤ x false ≡ pos 0) → only (differ a b) (x a) +ℤ only ((a && b) && turns) (x true +ℤ x false) ≡ only a (x true) +ℤ only b (x false)
+by-marks true true true x h = +ℤ-idl (x true +ℤ x false)
+by-marks true true false x h = sym (h tt)
+by-marks true false turns x h = refl
+by-marks false true turns x h = +ℤ-idr (x false) ∙ sym (+ℤ-idl (x false))
+by-marks false false turns x h = refl
+
+link-crosses : (g : Grid) (F : Books) (z : ℕ → Bool) (d i : ℕ) → edgeOf g F z d i +ℤ turnedAt g F z d i ≡ toMarked g F z d i
+unfolding edgeOf atEdge turnedAt toMarked broughtOf
+link-crosses g F z d i =
+    by-marks (z i) (z (i + strideOf g d)) (differ (F .lowIs d i) (F .highIs d i)) (λ low. broughtOf F low d i) (no-gain (F .lowIs d i) (F .highIs d i) (F .flow d i))
+
+-- ---- the three links that lead on from a block
+
+sum-crossed : (n : ℕ) (f g h : ℕ → ℤ) → sum n (λ i. f i -ℤ g i +ℤ h i) ≡ sum n f -ℤ sum n g +ℤ sum n h
+sum-crossed n f g h = sum-add n (λ i. f i -ℤ g i) h ∙ ap (λ x. x +ℤ sum n h) (sum-add n f (λ i. negℤ (g i)) ∙ ap (λ x. sum n f +ℤ x) (sum-neg n g))
+
+block-crosses : (g : Grid) (F : Books) (z : ℕ → Bool) (i : ℕ)
+    → edgesOf g F z i .inflow -ℤ edgesOf g F z i .outflow +ℤ sum 3 (λ d. turnedAt g F z d i) ≡ sum 3 (λ d. toMarked g F z d i)
+unfolding edgesOf
+block-crosses g F z i =
+    sym (sum-crossed 3 (λ d. inflowOf (edgeOf g F z d i)) (λ d. outflowOf (edgeOf g F z d i)) (λ d. turnedAt g F z d i))
+    ∙ sum-same 3 (λ d. inflowOf (edgeOf g F z d i) -ℤ outflowOf (edgeOf g F z d i) +ℤ turnedAt g F z d i) (λ d. toMarked g F z d i)
+    (λ d l. ap (λ x. x +ℤ turnedAt g F z d i) (in-less-out (edgeOf g F z d i)) ∙ link-crosses g F z d i)
+
+-- ---- the links of a case
+
+module _ (c : Case) (counted : Counted (c .grid)) (fluid : ℕ) where
+  abbrev g : Grid
+  g = c .grid
+
+  abbrev n : ℕ
+  n = blocksOf g
+
+  abbrev F : Books
+  F = booksOf c fluid
+
+  -- through a lateral face water stays what it is, so that all that turns is converted
+  turned-lateral : (z : ℕ → Bool) (d i : ℕ) → d < above → turnedAt g F z d i ≡ pos 0
+  unfolding turnedAt
+  turned-lateral z d i h =
+      rw (books-lateral c fluid d i h .0, books-lateral c fluid d i h .1)
+      (only-off ((z i && z (i + strideOf g d)) && false) (broughtOf F true d i +ℤ broughtOf F false d i) (λ t. both (z i && z (i + strideOf g d)) false t .1))
+
+  turned-converted : (z : ℕ → Bool) (i : ℕ) → sum 3 (λ d. turnedAt g F z d i) ≡ convertedAt g F z i
+  unfolding sum turnedAt convertedAt changes
+  turned-converted z i =
+      ap (λ x. pos 0 +ℤ x +ℤ turnedAt g F z 1 i +ℤ convertedAt g F z i) (turned-lateral z 0 i (omega arith))
+      ∙ ap (λ x. pos 0 +ℤ x +ℤ convertedAt g F z i) (turned-lateral z 1 i (omega arith))
+      ∙ +ℤ-idl (convertedAt g F z i)
+
+  crosses-links : (z : ℕ → Bool) → crossed (linesOf c z fluid) ≡ sum n (λ i. sum 3 (λ d. toMarked g F z d i))
+  unfolding linesBy totalsOf termsOf
+  crosses-links z =
+      sym (sum-crossed n (λ i. edgesOf g F z i .inflow) (λ i. edgesOf g F z i .outflow) (convertedAt g F z))
+      ∙ sum-same n (λ i. edgesOf g F z i .inflow -ℤ edgesOf g F z i .outflow +ℤ convertedAt g F z i) (λ i. sum 3 (λ d. toMarked g F z d i))
+      (λ i l. ap (λ x. edgesOf g F z i .inflow -ℤ edgesOf g F z i .outflow +ℤ x) (sym (turned-converted z i)) ∙ block-crosses g F z i)
+
+  -- two tests that agree on a live link tell the same of what it brings
+  where-live : (d i : ℕ) (low a b : Bool) → (T (liveOf g (c .slots) d i) → a ≡ b) → only a (broughtOf F low d i) ≡ only b (broughtOf F low d i)
+  where-live d i low a b h = go (liveOf g (c .slots) d i) refl
+    where
+      go : (live : Bool) → liveOf g (c .slots) d i ≡ live → only a (broughtOf F low d i) ≡ only b (broughtOf F low d i)
+      go true e = ap (λ (t : Bool). only t (broughtOf F low d i)) (h (holds e))
+      go false e = rw (brought-dead c fluid d i low e) (only-zero a ∙ sym (only-zero b))
+
+  far-inside : (d i : ℕ) → i < n → T (liveOf g (c .slots) d i) → i + strideOf g d < n
+  far-inside d i l t = next-inside g counted d i l (live-next g (c .slots) d i t)
+
+  marked-active : (z : ℕ → Bool) (i : ℕ) → T (activeOf (c .slots) i) → inZone (c .slots) z i ≡ z i
+  unfolding inZone
+  marked-active z i active = same-test (z i && activeOf (c .slots) i) (z i) (λ t. both (z i) (activeOf (c .slots) i) t .0) (λ t. joint (z i) (activeOf (c .slots) i) t active)
+
+  -- along an axis, from the blocks to the links: what a block gains by the link that ends in it is counted at that link
+  along : (z : ℕ → Bool) (d : ℕ) → sum n (λ i. only (inZone (c .slots) z i) (throughOf g F d i)) ≡ sum n (toMarked g F z d)
+  unfolding throughOf toMarked
+  along z d =
+      sum-same n (λ i. only (m i) (low i +ℤ back s high i)) (λ i. leading i +ℤ back s ending i) (λ i l. only-add (m i) (low i) (back s high i) ∙ ap (λ x. leading i +ℤ x) (only-back s m high i))
+      ∙ sum-add n leading (back s ending)
+      ∙ ap (λ x. sum n leading +ℤ x) (sum-move n s ending (λ i l h. where-live d i false (m (i + s)) false (λ t. absurd (h (far-inside d i l t)))))
+      ∙ sym (sum-add n leading ending)
+      ∙ sum-same n (λ i. leading i +ℤ ending i) (toMarked g F z d)
+      (λ i l. ap₂ _+ℤ_ (where-live d i true (m i) (z i) (λ t. marked-active z i (live-low g (c .slots) d i t))) (where-live d i false (m (i + s)) (z (i + s)) (λ t. marked-active z (i + s) (live-high g (c .slots) d i t))))
+    where
+      s : ℕ
+      s = strideOf g d
+
+      m : ℕ → Bool
+      m i = inZone (c .slots) z i
+
+      low : ℕ → ℤ
+      low i = broughtOf F true d i
+
+      high : ℕ → ℤ
+      high i = broughtOf F false d i
+
+      leading : ℕ → ℤ
+      leading i = only (m i) (low i)
+
+      ending : ℕ → ℤ
+      ending i = only (m (i + s)) (high i)
+
+  flows-links : (z : ℕ → Bool) → sum n (λ i. only (inZone (c .slots) z i) (flowsOf g F i)) ≡ sum n (λ i. sum 3 (λ d. toMarked g F z d i))
+  unfolding flowsOf
+  flows-links z =
+      sum-same n (λ i. only (m i) (flowsOf g F i)) (λ i. sum 3 (λ d. only (m i) (throughOf g F d i))) (λ i l. only-sum (m i) 3 (λ d. throughOf g F d i))
+      ∙ sum-swap n 3 (λ i d. only (m i) (throughOf g F d i))
+      ∙ sum-same 3 (λ d. sum n (λ i. only (m i) (throughOf g F d i))) (λ d. sum n (toMarked g F z d)) (λ d l. along z d)
+      ∙ sum-swap 3 n (toMarked g F z)
+    where
+      m : ℕ → Bool
+      m i = inZone (c .slots) z i
+
+  -- what crosses the edge and converts is what the marked active blocks gain by flows
+  pub crosses-flows : (z : ℕ → Bool) → crossed (linesOf c z fluid) ≡ sum (blocksOf (c .grid)) (λ i. only (inZone (c .slots) z i) (flowsOf (c .grid) (booksOf c fluid) i))
+  crosses-flows z = crosses-links z ∙ sym (flows-links z)
+
+  -- ---- zones alike on the blocks of the grid
+
+  module _ (z w : ℕ → Bool) (alike : (i : ℕ) → i < n → z i ≡ w i) where
+    edge-same : (d i : ℕ) → i < n → edgeOf g F z d i ≡ edgeOf g F w d i
+    unfolding edgeOf atEdge
+    edge-same d i l =
+        let far : ℕ = i + strideOf g d in
+        rw (alike i l) (where-live d i (w i) (differ (w i) (z far)) (differ (w i) (w far)) (λ t. ap (differ (w i)) (alike far (far-inside d i l t))))
+
+    converted-same : (i : ℕ) → i < n → convertedAt g F z i ≡ convertedAt g F w i
+    unfolding convertedAt
+    converted-same i l = only-add (turns z) (brought true) (brought false) ∙ ap₂ _+ℤ_ (side true) (side false) ∙ sym (only-add (turns w) (brought true) (brought false))
+      where
+        far : ℕ
+        far = i + strideOf g above
+
+        brought : Bool → ℤ
+        brought low = broughtOf F low above i
+
+        turns : (ℕ → Bool) → Bool
+        turns z = (z i && z far) && changes F i
+
+        side : (low : Bool) → only (turns z) (brought low) ≡ only (turns w) (brought low)
+        side low = where-live above i low (turns z) (turns w) (λ t. ap₂ (λ a b. (a && b) && changes F i) (alike i l) (alike far (far-inside above i l t)))
+
+    own-same : (i : ℕ) → i < n → ownIn (c .slots) F z i ≡ ownIn (c .slots) F w i
+    unfolding ownIn inZone
+    own-same i l = rw (alike i l)
+
+    remainder-same : (i : ℕ) → i < n → remainderOf (inZone (c .slots) z i) (F .fixed i) (balanceIn g F i) ≡ remainderOf (inZone (c .slots) w i) (F .fixed i) (balanceIn g F i)
+    unfolding inZone
+    remainder-same i l = rw (alike i l)
+
+-- A row depends on the marks of the grid's blocks alone: a link that leads outside brings nothing.
+pub lines-same : (c : Case) → Counted (c .grid) → (z w : ℕ → Bool) → ((i : ℕ) → i < blocksOf (c .grid) → z i ≡ w i) → (fluid : ℕ) → linesOf c z fluid ≡ linesOf c w fluid
+unfolding linesBy totalsOf termsOf edgesOf
+lines-same c counted z w alike fluid =
+    let n = blocksOf (c .grid) in
+    let own = own-same c counted fluid z w alike in
+    let edge = edge-same c counted fluid z w alike in
+    let remainder = remainder-same c counted fluid z w alike in
+    λ k. record {
+      storage = sum-same n _ _ (λ i l. ap (λ o. o .storage) (own i l)) k;
+      «edge_in» = sum-same n _ _ (λ i l. sum-same 3 _ _ (λ d h. ap inflowOf (edge d i l))) k;
+      «edge_out» = sum-same n _ _ (λ i l. sum-same 3 _ _ (λ d h. ap outflowOf (edge d i l))) k;
+      converted = sum-same n _ _ (converted-same c counted fluid z w alike) k;
+      wells = sum-same n _ _ (λ i l. ap (λ o. negℤ (o .pumped)) (own i l)) k;
+      recharge = sum-same n _ _ (λ i l. ap (λ o. o .recharge) (own i l)) k;
+      boundary = sum-same n _ _ (λ i l. ap (λ o. o .boundary) (own i l)) k;
+      supply = sum-same n _ _ (λ i l. ap (λ r. r .supply) (remainder i l)) k;
+      error = sum-same n _ _ (λ i l. ap (λ r. r .error) (remainder i l)) k;
+    }

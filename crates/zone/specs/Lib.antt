@@ -1,0 +1,5 @@
+pub mod Zones
+pub mod Exchange
+pub mod Holdings
+pub mod Table
+pub mod Accounts

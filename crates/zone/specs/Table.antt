@@ -1,0 +1,65 @@
+-- A zone's table (document 01, "Balance, verdict, table"): "two rows, fresh and salt, of nine lines: storage, edge in, edge out, converted, wells,
+-- recharge, boundary, supply, error", in litres a day.
+use mathlib.Core.Bool.{Bool}
+use mathlib.Core.List.{List}
+use Prim.Native.Nat.{_≤_, ℕ}
+use lib.IntN.{negℤ, ℤ}
+use lib.ListN.{length}
+use Rattle.whole.specs.Sum.{sum}
+use Rattle.grid.specs.declared.Grid.{Grid}
+use Rattle.grid.specs.Place.{blocksOf}
+use Rattle.slices.specs.Slices.{Case}
+use Rattle.wellformed.specs.Limits.{WellFormed}
+use Rattle.books.specs.Blocks.{Watered}
+use Rattle.books.specs.Bookkeeping.{Books, booksOf}
+use Rattle.books.specs.Rows.{Row}
+use Rattle.balance.specs.Balance.{balanceIn, balancesOf}
+use Rattle.zone.specs.declared.lines.Lines.{Lines}
+use Rattle.zone.specs.Exchange.{convertedAt, edgesOf}
+use Rattle.zone.specs.Holdings.{ownIn, remainderOf}
+use Rattle.zone.specs.Zones.{inZone}
+
+-- what a block, with the three links that lead on from it, gives to each line of a fluid's row; "wells (negative where pumped)"
+unfoldable pub termsOf : Grid → List ℤ → Books → (ℕ → Bool) → ℕ → Lines
+termsOf g slots F z i =
+    record {
+      storage = ownIn slots F z i .storage;
+      «edge_in» = edgesOf g F z i .inflow;
+      «edge_out» = edgesOf g F z i .outflow;
+      converted = convertedAt g F z i;
+      wells = negℤ (ownIn slots F z i .pumped);
+      recharge = ownIn slots F z i .recharge;
+      boundary = ownIn slots F z i .boundary;
+      supply = remainderOf (inZone slots z i) (F .fixed i) (balanceIn g F i) .supply;
+      error = remainderOf (inZone slots z i) (F .fixed i) (balanceIn g F i) .error;
+    }
+
+-- the sums of n such rows
+unfoldable pub totalsOf : ℕ → (ℕ → Lines) → Lines
+totalsOf n f =
+    record {
+      storage = sum n (λ i. f i .storage);
+      «edge_in» = sum n (λ i. f i .«edge_in»);
+      «edge_out» = sum n (λ i. f i .«edge_out»);
+      converted = sum n (λ i. f i .converted);
+      wells = sum n (λ i. f i .wells);
+      recharge = sum n (λ i. f i .recharge);
+      boundary = sum n (λ i. f i .boundary);
+      supply = sum n (λ i. f i .supply);
+      error = sum n (λ i. f i .error);
+    }
+
+-- the row of a fluid, over all blocks of a grid and by the fluid's books
+unfoldable pub linesBy : Grid → List ℤ → Books → (ℕ → Bool) → Lines
+linesBy g slots F z = totalsOf (blocksOf g) (termsOf g slots F z)
+
+-- of a case
+abbrev pub linesOf : Case → (ℕ → Bool) → ℕ → Lines
+linesOf c z fluid = linesBy (c .grid) (c .slots) (booksOf c fluid) z
+
+-- what later parts require: a well-formed case, rows of its thicknesses and balances, and marks that reach over the grid
+pub record Ready (c : Case) (waters balances marks : List ℤ) : Type 0 where
+  pub formed : WellFormed c
+  pub watered : Watered (c .grid) (c .slots) waters
+  pub balanced : Row (blocksOf (c .grid)) (balancesOf c) balances
+  pub reach : blocksOf (c .grid) ≤ length marks
