@@ -8,7 +8,6 @@ use native.Mathlib.Omega.{arith}
 use lib.Dec.{T, eqb}
 use lib.IntN.{negℤ, pos, ℤ}
 use lib.Signed.{ltZ}
-use mir.Syntax.{named}
 use Rattle.whole.specs.Sum.{only}
 use Rattle.whole.proofs.SearchLaws.{true-is}
 use Rattle.grid.specs.Place.{Beside, behindOf, blocksOf, strideOf}

@@ -4,6 +4,10 @@ ghost use Prim.Native.Nat.{_+_, _*_, _≤_};
 ghost use lib.ListN.{length};
 ghost use Rattle.books.specs.Rows.{pairOf, putOf};
 use block::Fluids;
+use grid::units::MOST_BLOCKS;
+
+// Two numbers for each block of the largest grid.
+pub const ROW: usize = 2 * MOST_BLOCKS;
 
 // The two numbers of a block. Inner: the row reaches so far.
 pub fn pair(row: &[i64], block: usize) -> Fluids

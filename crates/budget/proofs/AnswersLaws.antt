@@ -21,7 +21,7 @@ use Rattle.zone.specs.declared.lines.Lines.{Lines}
 use Rattle.zone.specs.Table.{linesBy}
 use Rattle.zone.specs.Zones.{markedOf}
 use Rattle.zone.proofs.LinesLaws.{lines-same}
-use Rattle.budget.specs.Answers.{eighteenOf, everywhere, markOf, marksOf, readOf, tabled}
+use Rattle.budget.specs.Answers.{eighteenOf, everywhere, markOf, marksOf, readOf, refusing, tabled}
 use Rattle.budget.specs.Tables.{flatOf, rowOf, tableTo}
 
 -- ---- marks put in
@@ -69,13 +69,13 @@ eighteen-same c counted z w alike = ap₂ (λ a b. rowOf a ++ rowOf b) (lines-sa
 -- ---- answers, judged run by run
 
 module _ (xs ys : List Refusal) (r : Refusal) (lines : List ℤ) (told : r ≡ firstRefusal xs) where
-  pub tabled-stays : (r .number ≡ 0 → ⊥) → record { refusal = r; lines = replicate 18 (pos 0) } ≡ tabled (firstRefusal (xs ++ ys)) lines
+  pub tabled-stays : (r .number ≡ 0 → ⊥) → refusing r ≡ tabled (firstRefusal (xs ++ ys)) lines
   tabled-stays h = rw (← first-stays xs ys r told h, ne-eqb (r .number) 0 h)
 
   pub tabled-goes-on : r .number ≡ 0 → tabled (firstRefusal ys) lines ≡ tabled (firstRefusal (xs ++ ys)) lines
   tabled-goes-on h = ap (λ q. tabled q lines) (first-goes-on xs ys r told (firstRefusal ys) h refl)
 
-pub dry-tabled : (b : ℕ) (lines : List ℤ) → 0 < b → record { refusal = refusal 13 b; lines = replicate 18 (pos 0) } ≡ tabled (firstRefusal (blaming 13 b ∷ [])) lines
+pub dry-tabled : (b : ℕ) (lines : List ℤ) → 0 < b → refusing (refusal 13 b) ≡ tabled (firstRefusal (blaming 13 b ∷ [])) lines
 unfolding firstRefusal orElse
 dry-tabled zero lines l = absurd (omega arith)
 dry-tabled (suc b) lines l = refl

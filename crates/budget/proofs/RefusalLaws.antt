@@ -9,8 +9,7 @@ use Rattle.whole.proofs.SearchLaws.{true-is}
 use Rattle.slices.specs.declared.Refusal.{Refusal}
 use Rattle.slices.specs.Slices.{Case, contentsOf, firstRefusal, orElse, refusal, shapeOf, unless}
 use Rattle.slices.proofs.SlicesLaws.{blames-none, first-append, first-goes-on, first-stays, here, holds-among, none-apart, none-together, or-next, unless-alone}
-use Rattle.wellformed.specs.Limits.{checkedOf, limitsOf}
-use Rattle.wellformed.proofs.LinksLaws.{reach}
+use Rattle.wellformed.specs.Limits.{checkedOf, checksOf, limitsOf}
 use Rattle.budget.specs.Answers.{caseRefusal, dryOf, marksHold, marksReach, wellChecks, zoneChecks, zoneRefusal}
 
 -- ---- 3, 7, 4, 5, 6, 9, 10, 11
@@ -87,11 +86,14 @@ module _ (c : Case) where
   unfolding firstRefusal orElse
   none-dry e = rw e
 
-  -- a well-formed case with no dry well is refused nothing
-  pub clear-case : checkedOf c .number ≡ 0 → dryOf (c .grid) (c .slots) ≡ 0 → caseRefusal c .number ≡ 0
-  clear-case e d = none-together ((shapeOf c ++ contentsOf c) ++ limitsOf c) (wellChecks c) e (none-dry d)
+  -- a case is refused nothing exactly where it is well formed with no dry well
+  pub case-clear : caseRefusal c .number ≡ 0 → (checkedOf c .number ≡ 0) × (dryOf (c .grid) (c .slots) ≡ 0)
+  case-clear e = let h = none-apart (checksOf c) (wellChecks c) e in (h .0, dry-none (h .1))
 
-  -- nor is a zone of it whose marks reach over the grid and are 0 or 1, and no other zone
+  pub clear-case : checkedOf c .number ≡ 0 → dryOf (c .grid) (c .slots) ≡ 0 → caseRefusal c .number ≡ 0
+  clear-case e d = none-together (checksOf c) (wellChecks c) e (none-dry d)
+
+  -- and a zone exactly where, besides, its marks reach over the grid and are 0 or 1
   pub zone-clear : (marks : List ℤ) → zoneRefusal c marks .number ≡ 0
       → ((checkedOf c .number ≡ 0) × (dryOf (c .grid) (c .slots) ≡ 0)) × (T (marksReach (c .grid) marks) × T (marksHold (c .grid) marks))
   zone-clear marks e =

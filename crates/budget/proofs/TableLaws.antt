@@ -17,7 +17,7 @@ use Rattle.whole.proofs.RangeLaws.{leaf, ranges, within}
 use Rattle.whole.proofs.SumLaws.{sum-in, sum-more}
 use Rattle.grid.specs.Place.{blocksOf}
 use Rattle.grid.specs.Units.{mostBlocks}
-use Rattle.slices.specs.Slices.{Case, none}
+use Rattle.slices.specs.Slices.{Case}
 use Rattle.block.specs.Fluids.{fresh, salt}
 use Rattle.wellformed.specs.Limits.{WellFormed}
 use Rattle.books.specs.Bookkeeping.{booksOf}

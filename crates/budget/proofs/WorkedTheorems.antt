@@ -1,52 +1,61 @@
--- Tables worked out: of the case that document 01 prints, as it prints them, and of a case from outside with water in all lines but two. Assumes
--- nothing.
+-- Tables worked out: of the case that document 01 prints, as it prints them, and of a zone with water in all lines but two. Assumes nothing.
 use mathlib.Core.List.{List, [], _∷_}
 use mathlib.Core.Path.{_≡_, refl}
-use lib.IntN.{negsuc, negℤ, pos, ℤ}
-use Rattle.whole.specs.Ranges.{inRange}
+use lib.IntN.{negℤ, pos, ℤ}
+use Rattle.whole.specs.Ranges.{allWithin, inRange}
+use Rattle.whole.specs.Search.{every, firstOf}
 use Rattle.whole.specs.Sum.{back, sum}
 use Rattle.whole.specs.Whole.{clampOf}
+use Rattle.grid.specs.Judging.{countsHold, termsHold}
 use Rattle.grid.specs.Place.{behindOf, hasNext, hasPrevious, neighbourOf, nextOf, placeOf, previousOf, topOf}
+use Rattle.slots.specs.Ranges.{endsHold, rangeOf}
+use Rattle.slots.specs.Rules.{allZero, boundaryHolds, layerHolds, openHolds, rulesHold, screenWithin, screensHold, slotsHold}
 use Rattle.slots.specs.Slots.{slotsAt}
-use Rattle.slices.specs.Slices.{Case, caseOf}
+use Rattle.slices.specs.Slices.{Case, caseOf, contentsOf, faultOf, firstRefusal, none, orElse, roomHolds, shapeOf, widthsHold}
 use Rattle.slices.proofs.WorkedTheorems.{printedCase}
 use Rattle.block.specs.Density.{freshEquivalentOf, interfaceOf, saltKOf, seaHeadOf}
 use Rattle.block.specs.Geometry.{aquiferTopOf, hasTable, heldOf, levelsOf, saturatedTopOf, thicknessesOf}
 use Rattle.block.specs.Storage.{storageOf, volumeOf}
-use Rattle.block.specs.Wells.{freshShareOf, lengthWithin, lengthsOf, sharesOf}
+use Rattle.block.specs.Wells.{freshShareOf, isDry, lengthWithin, lengthsOf, sharesOf}
 use Rattle.flow.specs.Boundary.{belowTop, boundaryHeadOf, boundaryOf, exchangeOf, gainOf, rechargeOf}
 use Rattle.flow.specs.Lateral.{conductanceOf, faceConductanceOf, faceKOf, faceThicknessOf, lateralOf, tipOf}
 use Rattle.flow.specs.Leakage.{differenceOf, leakageOf, lowermostOf, uppermostOf}
 use Rattle.flow.specs.Litres.{leavingOf, litresOf, overAreaOf}
+use Rattle.wellformed.specs.Limits.{aboveExceeds, atFault, blockExceeds, boundaryExceeds, eitherExceeds, faceExceeds, firstAtFault, greatestOf, limitsOf, overlaps}
 use Rattle.wellformed.specs.Links.{liveOf}
 use Rattle.wellformed.specs.Widths.{areaAt}
-use Rattle.books.specs.Blocks.{levelsAt, watersOf}
+use Rattle.books.specs.Blocks.{dryAt, levelsAt, watersOf}
 use Rattle.books.specs.Bookkeeping.{booksOf, broughtOf}
 use Rattle.books.specs.Links.{lateralAt, leakageAt, namedOf, sideOf, tipBehindOf}
 use Rattle.books.specs.Terms.{fixedOf, ownOf, pumpedAt, storageAt}
 use Rattle.balance.specs.Balance.{balanceIn, flowsOf, throughOf}
 use Rattle.zone.specs.Exchange.{atEdge, changes, convertedAt, edgeOf, edgesOf}
-use Rattle.zone.specs.Holdings.{ownIn, remainderOf}
+use Rattle.zone.specs.Holdings.{ownIn, settledOf}
 use Rattle.zone.specs.Table.{linesBy, termsOf, totalsOf}
 use Rattle.zone.specs.Zones.{inZone, markedOf}
-use Rattle.budget.specs.Answers.{eighteenOf, everywhere, layerZone}
+use Rattle.budget.specs.declared.Answer.{Answer}
+use Rattle.budget.specs.Answers.{dryOf, eighteenOf, layerAnswer, layerZone, wholeAnswer, zoneAnswer, zoneChecks}
 use Rattle.budget.specs.Tables.{rowOf}
+
+-- lines beside no refusal
+abbrev given : List ℤ → Answer
+given lines = record { refusal = none; lines = lines }
 
 -- storage, edge in, edge out, converted, wells, recharge, boundary, supply, error: of fresh water, then of salt
 abbrev printed : List ℤ
 printed =
-    pos 0 ∷ pos 0 ∷ pos 0 ∷ pos 0 ∷ negsuc 149 ∷ pos 0 ∷ pos 0 ∷ pos 146 ∷ negsuc 3
+    pos 0 ∷ pos 0 ∷ pos 0 ∷ pos 0 ∷ negℤ (pos 150) ∷ pos 0 ∷ pos 0 ∷ pos 146 ∷ negℤ (pos 4)
     ∷ pos 0 ∷ pos 0 ∷ pos 0 ∷ pos 0 ∷ pos 0 ∷ pos 0 ∷ pos 0 ∷ pos 0 ∷ pos 0 ∷ []
 
 -- the whole is one layer, so that "all" and "layer 1" have the same lines
-pub printed-tables : (eighteenOf printedCase everywhere ≡ printed) × (eighteenOf printedCase (layerZone (printedCase .grid) 1) ≡ printed)
-unfolding inRange sum back clampOf placeOf topOf hasNext nextOf slotsAt interfaceOf saltKOf aquiferTopOf hasTable saturatedTopOf heldOf levelsOf thicknessesOf volumeOf storageOf lengthWithin lengthsOf freshShareOf sharesOf belowTop rechargeOf boundaryOf faceKOf conductanceOf faceThicknessOf faceConductanceOf lateralOf uppermostOf lowermostOf litresOf leavingOf liveOf areaAt levelsAt watersOf booksOf broughtOf sideOf lateralAt namedOf pumpedAt storageAt ownOf fixedOf throughOf flowsOf balanceIn inZone atEdge edgeOf edgesOf changes convertedAt ownIn remainderOf termsOf totalsOf linesBy rowOf eighteenOf layerZone
+pub printed-tables : (wholeAnswer printedCase ≡ given printed) × (layerAnswer printedCase 1 ≡ given printed)
+unfolding firstOf inRange placeOf slotsAt orElse firstRefusal hasNext nextOf aquiferTopOf saltKOf overAreaOf faceKOf conductanceOf areaAt liveOf overlaps greatestOf eitherExceeds faceExceeds aboveExceeds boundaryExceeds blockExceeds atFault firstAtFault limitsOf every allWithin topOf rangeOf endsHold screenWithin screensHold layerHolds boundaryHolds rulesHold allZero slotsHold countsHold termsHold roomHolds widthsHold faultOf shapeOf contentsOf sum back clampOf hasPrevious previousOf neighbourOf behindOf interfaceOf freshEquivalentOf seaHeadOf hasTable saturatedTopOf heldOf levelsOf thicknessesOf volumeOf storageOf lengthWithin lengthsOf freshShareOf sharesOf belowTop rechargeOf boundaryHeadOf exchangeOf gainOf boundaryOf tipOf faceThicknessOf faceConductanceOf lateralOf uppermostOf lowermostOf differenceOf leakageOf litresOf leavingOf levelsAt watersOf booksOf broughtOf sideOf tipBehindOf lateralAt leakageAt namedOf pumpedAt storageAt ownOf fixedOf throughOf flowsOf balanceIn inZone atEdge edgeOf edgesOf changes convertedAt ownIn settledOf termsOf totalsOf linesBy rowOf eighteenOf layerZone markedOf isDry dryAt dryOf zoneChecks zoneAnswer layerAnswer wholeAnswer
 printed-tables = (refl, refl)
 
--- Two columns, two rows and three layers, with the zone marked 1 1 0 1, 0 0 1 0 and 0 1 1 1 by layer: one of the tables that a separate
--- program worked out from document 01, with water in all lines but two.
-abbrev outsideCase : Case
-outsideCase =
+-- A grid of two columns, two rows and three layers, of which 1 1 0 1, 0 0 1 0 and 0 1 1 1 are marked, layer by layer. The lines were worked out by
+-- another program, written from document 01.
+abbrev twelveBlocks : Case
+twelveBlocks =
     caseOf (record { columns = 2; rows = 2; layers = 3; delta = pos 1; flag = 1; step = pos 1; tolerance = pos 1000000000 }) (pos 100 ∷ pos 100 ∷ []) (pos 100 ∷ pos 100 ∷ [])
     (pos 22197 ∷ negℤ (pos 277932) ∷ pos 40960 ∷ pos 1000 ∷ pos 1000000 ∷ pos 0 ∷ pos 0 ∷ pos 0 ∷ pos 0 ∷ pos 3 ∷ pos 0 ∷ pos 0 ∷ negℤ (pos 14090) ∷ negℤ (pos 131573) ∷ negℤ (pos 14090) ∷ negℤ (pos 132059)
     ∷ pos 1493 ∷ negℤ (pos 277932) ∷ pos 245760 ∷ pos 200 ∷ pos 52954 ∷ pos 0 ∷ pos 150 ∷ negℤ (pos 277932) ∷ negℤ (pos 32172) ∷ pos 5 ∷ pos 0 ∷ pos 0 ∷ negℤ (pos 14016) ∷ negℤ (pos 112968) ∷ negℤ (pos 14016) ∷ negℤ (pos 112968)
@@ -62,11 +71,11 @@ outsideCase =
     ∷ pos 36288 ∷ pos 8177 ∷ pos 245760 ∷ pos 1 ∷ pos 0 ∷ pos 1 ∷ pos 0 ∷ pos 0 ∷ pos 0 ∷ pos 2 ∷ pos 0 ∷ pos 1 ∷ pos 255677 ∷ pos 254807 ∷ pos 255677 ∷ pos 254807
     ∷ [])
 
-abbrev outsideMarks : List ℤ
-outsideMarks = pos 1 ∷ pos 1 ∷ pos 0 ∷ pos 1 ∷ pos 0 ∷ pos 0 ∷ pos 1 ∷ pos 0 ∷ pos 0 ∷ pos 1 ∷ pos 1 ∷ pos 1 ∷ []
+abbrev sevenMarks : List ℤ
+sevenMarks = pos 1 ∷ pos 1 ∷ pos 0 ∷ pos 1 ∷ pos 0 ∷ pos 0 ∷ pos 1 ∷ pos 0 ∷ pos 0 ∷ pos 1 ∷ pos 1 ∷ pos 1 ∷ []
 
-pub outside-table : eighteenOf outsideCase (markedOf outsideMarks) ≡ (
-    pos 1590585 ∷ pos 437293318 ∷ pos 5279 ∷ pos 10825962 ∷ pos 999892 ∷ pos 50000 ∷ pos 0 ∷ negsuc 432589337 ∷ pos 14983970
-    ∷ negsuc 1590302 ∷ pos 86616726 ∷ pos 6825939 ∷ negsuc 10825961 ∷ negsuc 40 ∷ pos 0 ∷ negsuc 623 ∷ pos 299004 ∷ pos 70853467 ∷ [])
-unfolding inRange sum back clampOf placeOf topOf hasNext hasPrevious nextOf previousOf neighbourOf behindOf slotsAt interfaceOf saltKOf freshEquivalentOf seaHeadOf aquiferTopOf hasTable saturatedTopOf heldOf levelsOf thicknessesOf volumeOf storageOf lengthWithin lengthsOf freshShareOf sharesOf belowTop rechargeOf boundaryHeadOf exchangeOf gainOf boundaryOf faceKOf conductanceOf tipOf faceThicknessOf faceConductanceOf lateralOf uppermostOf lowermostOf differenceOf leakageOf litresOf leavingOf overAreaOf liveOf areaAt levelsAt watersOf booksOf broughtOf sideOf tipBehindOf lateralAt leakageAt namedOf pumpedAt storageAt ownOf fixedOf throughOf flowsOf balanceIn inZone atEdge edgeOf edgesOf changes convertedAt ownIn remainderOf termsOf totalsOf linesBy rowOf eighteenOf layerZone markedOf
-outside-table = refl
+pub seven-of-twelve : zoneAnswer twelveBlocks sevenMarks ≡ given (
+    pos 1590585 ∷ pos 437293318 ∷ pos 5279 ∷ pos 10825962 ∷ pos 999892 ∷ pos 50000 ∷ pos 0 ∷ negℤ (pos 432589338) ∷ pos 14983970
+    ∷ negℤ (pos 1590303) ∷ pos 86616726 ∷ pos 6825939 ∷ negℤ (pos 10825962) ∷ negℤ (pos 41) ∷ pos 0 ∷ negℤ (pos 624) ∷ pos 299004 ∷ pos 70853467 ∷ [])
+unfolding firstOf inRange placeOf slotsAt orElse firstRefusal hasNext nextOf aquiferTopOf saltKOf overAreaOf faceKOf conductanceOf areaAt liveOf overlaps greatestOf eitherExceeds faceExceeds aboveExceeds boundaryExceeds blockExceeds atFault firstAtFault limitsOf every allWithin topOf rangeOf endsHold screenWithin screensHold layerHolds openHolds boundaryHolds rulesHold allZero slotsHold countsHold termsHold roomHolds widthsHold faultOf shapeOf contentsOf sum back clampOf hasPrevious previousOf neighbourOf behindOf interfaceOf freshEquivalentOf seaHeadOf hasTable saturatedTopOf heldOf levelsOf thicknessesOf volumeOf storageOf lengthWithin lengthsOf freshShareOf sharesOf belowTop rechargeOf boundaryHeadOf exchangeOf gainOf boundaryOf tipOf faceThicknessOf faceConductanceOf lateralOf uppermostOf lowermostOf differenceOf leakageOf litresOf leavingOf levelsAt watersOf booksOf broughtOf sideOf tipBehindOf lateralAt leakageAt namedOf pumpedAt storageAt ownOf fixedOf throughOf flowsOf balanceIn inZone atEdge edgeOf edgesOf changes convertedAt ownIn settledOf termsOf totalsOf linesBy rowOf eighteenOf layerZone markedOf isDry dryAt dryOf zoneChecks zoneAnswer layerAnswer wholeAnswer
+seven-of-twelve = refl

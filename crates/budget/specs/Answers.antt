@@ -1,7 +1,8 @@
 -- The table that a client is answered, and what it is refused with (document 01, "Refusal numbers").
 use mathlib.Core.Bool.{Bool, cond, true}
 use mathlib.Core.List.{List, [], _++_, _∷_}
-use Prim.Native.Nat.{_*_, _+_, suc, zero, ℕ}
+use mathlib.Core.Path.{_≡_}
+use Prim.Native.Nat.{_*_, _+_, _<_, suc, zero, ℕ}
 use lib.Dec.{eqb, leb}
 use lib.IntN.{pos, ℤ}
 use lib.ListN.{getD, length, replicate, set}
@@ -12,8 +13,9 @@ use Rattle.grid.specs.Place.{blocksOf, placeOf}
 use Rattle.slices.specs.declared.Refusal.{Refusal}
 use Rattle.slices.specs.Slices.{Case, blaming, contentsOf, firstRefusal, shapeOf, unless}
 use Rattle.block.specs.Fluids.{fresh, salt}
-use Rattle.wellformed.specs.Limits.{limitsOf}
+use Rattle.wellformed.specs.Limits.{checkedOf, checksOf, limitsOf}
 use Rattle.books.specs.Blocks.{dryAt}
+use Rattle.verdict.specs.Acceptance.{Wet}
 use Rattle.zone.specs.declared.lines.Lines.{Lines}
 use Rattle.zone.specs.Table.{linesOf}
 use Rattle.zone.specs.Zones.{markedOf}
@@ -49,7 +51,7 @@ zoneRefusal c marks = firstRefusal (zoneChecks c marks ++ wellChecks c)
 
 -- and where no marks are lent
 abbrev pub caseRefusal : Case → Refusal
-caseRefusal c = firstRefusal (((shapeOf c ++ contentsOf c) ++ limitsOf c) ++ wellChecks c)
+caseRefusal c = firstRefusal (checksOf c ++ wellChecks c)
 
 -- ---- zones without marks
 
@@ -75,9 +77,16 @@ marksOf (suc n) z row = set (marksOf n z row) n (markOf z n)
 unfoldable pub eighteenOf : Case → (ℕ → Bool) → List ℤ
 eighteenOf c z = rowOf (linesOf c z fresh) ++ rowOf (linesOf c z salt)
 
--- a refusal, or lines beside none; the lines beside a refusal are all 0
+-- a refusal beside lines that are all 0
+abbrev pub noLines : List ℤ
+noLines = replicate 18 (pos 0)
+
+abbrev pub refusing : Refusal → Answer
+refusing r = record { refusal = r; lines = noLines }
+
+-- a refusal, or lines beside none
 abbrev pub tabled : Refusal → List ℤ → Answer
-tabled r lines = record { refusal = r; lines = cond (eqb (r .number) 0) lines (replicate 18 (pos 0)) }
+tabled r lines = record { refusal = r; lines = cond (eqb (r .number) 0) lines noLines }
 
 -- of a zone by its marks, of a layer, of the whole
 unfoldable pub zoneAnswer : Case → List ℤ → Answer
@@ -106,3 +115,10 @@ readOf a fluid =
   where
     at : ℕ → ℤ
     at line = getD (a .lines) (9 * fluid + line) (pos 0)
+
+-- What the theorems about tables speak of: an answer gives the table of a zone where the case is well formed, no well is dry, and the lines of each
+-- fluid are those of the zone.
+pub record Tells (c : Case) (z : ℕ → Bool) (a : Answer) : Type 0 where
+  pub checked : checkedOf c .number ≡ 0
+  pub wet : Wet (c .grid) (c .slots)
+  pub lines : (fluid : ℕ) → fluid < 2 → readOf a fluid ≡ linesOf c z fluid

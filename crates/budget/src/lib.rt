@@ -18,12 +18,14 @@ ghost use Rattle.budget.specs.Answers.{
   markOf,
   marksOf,
   eighteenOf,
+  refusing,
   tabled,
   zoneAnswer,
   layerAnswer,
   wholeAnswer,
 };
 use balance::balances::fill_balances;
+use books::rows::ROW;
 use books::waters::fill_waters;
 use books::waters::is_dry_at;
 use grid::Grid;
@@ -45,11 +47,18 @@ pub struct Answer {
     pub lines: [i64; 18],
 }
 
-// Two numbers for each block of the largest grid.
-const ROW: usize = 2 * MOST_BLOCKS;
-
 // "A zone is a mark 0 or 1 per block."
 const MARKS: Range = Range { lower: 0, upper: 1 };
+
+// A refusal beside lines that are all 0.
+fn refused(refusal: Refusal) -> Answer
+    ensures { λ r. ⌜ r ≡ refusing refusal ⌝ }
+{
+    Answer {
+        refusal,
+        lines: [0i64; 18],
+    }
+}
 
 // 13: "a table is asked for with a dry well": the first block at fault, or 0. Inner: the slots are in range and the row holds their
 // thicknesses.
@@ -108,10 +117,7 @@ fn account(g: Grid, columns: &[i64], rows: &[i64], slots: &[i64], marks: &[i64])
     fill_waters(g, slots, &mut waters);
     let block = first_dry(g, slots, &waters);
     if 0 < block {
-        return Answer {
-            refusal: Refusal { number: 13, block },
-            lines: [0i64; 18],
-        };
+        return refused(Refusal { number: 13, block });
     }
     let mut balances = [0i64; ROW];
     fill_balances(g, columns, rows, slots, &waters, &mut balances);
@@ -133,16 +139,13 @@ pub fn zone_table(g: Grid, columns: &[i64], rows: &[i64], slots: &[i64], marks: 
 {
     let refusal = judge_zone(g, columns, rows, slots, marks);
     if refusal.number != 0 {
-        return Answer {
-            refusal,
-            lines: [0i64; 18],
-        };
+        return refused(refusal);
     }
     account(g, columns, rows, slots, marks)
 }
 
 // The mark of a block in the zone of a layer, counted from 1 at the bottom. Inner: the counts are in range and the block is inside.
-fn layer_mark(g: Grid, layer: usize, block: usize) -> i64
+fn mark_in_layer(g: Grid, layer: usize, block: usize) -> i64
     requires { ⌜ Counted g ⌝ }
     requires { ⌜ block < blocksOf g ⌝ }
     ensures { λ r. ⌜ r ≡ markOf (layerZone g layer) block ⌝ }
@@ -152,14 +155,14 @@ fn layer_mark(g: Grid, layer: usize, block: usize) -> i64
 }
 
 // Puts in the marks of a layer. Inner: the counts are in range and the marks reach over the grid.
-fn mark_layer(g: Grid, layer: usize, marks: &mut [i64])
+fn fill_layer_marks(g: Grid, layer: usize, marks: &mut [i64])
     requires { ⌜ Counted g ⌝ }
     requires { ⌜ blocksOf g ≤ length (now marks) ⌝ }
     ensures { λ r. ⌜ now (marks .exit) ≡ marksOf (blocksOf g) (layerZone g layer) (now (marks .entry)) ⌝ }
 {
     let total = blocks(g);
     for block in 0..total {
-        let mark = layer_mark(g, layer, block);
+        let mark = mark_in_layer(g, layer, block);
         marks[block] = mark;
     }
 }
@@ -171,13 +174,10 @@ pub fn layer_table(g: Grid, columns: &[i64], rows: &[i64], slots: &[i64], layer:
 {
     let refusal = check_slices(g, columns, rows, slots);
     if refusal.number != 0 {
-        return Answer {
-            refusal,
-            lines: [0i64; 18],
-        };
+        return refused(refusal);
     }
     let mut marks = [0i64; MOST_BLOCKS];
-    mark_layer(g, layer, &mut marks);
+    fill_layer_marks(g, layer, &mut marks);
     account(g, columns, rows, slots, &marks)
 }
 
@@ -187,10 +187,7 @@ pub fn whole_table(g: Grid, columns: &[i64], rows: &[i64], slots: &[i64]) -> Ans
 {
     let refusal = check_slices(g, columns, rows, slots);
     if refusal.number != 0 {
-        return Answer {
-            refusal,
-            lines: [0i64; 18],
-        };
+        return refused(refusal);
     }
     let marks = [1i64; MOST_BLOCKS];
     account(g, columns, rows, slots, &marks)

@@ -80,14 +80,6 @@ none-apart xs ys e = or-none (firstRefusal xs) (firstRefusal ys) (rw (first-appe
 pub none-together : (xs ys : List Refusal) → firstRefusal xs .number ≡ 0 → firstRefusal ys .number ≡ 0 → firstRefusal (xs ++ ys) .number ≡ 0
 none-together xs ys h k = ap (λ r. r .number) (first-append xs ys ∙ or-next (firstRefusal xs) (firstRefusal ys) h) ∙ k
 
--- where nothing is refused, no block is named
-pub none-is : (xs : List Refusal) → firstRefusal xs .number ≡ 0 → firstRefusal xs ≡ none
-unfolding firstRefusal
-none-is [] e = refl
-none-is (x ∷ xs) e =
-    let h = or-none x (firstRefusal xs) e in
-    or-next x (firstRefusal xs) (h .0) ∙ none-is xs (h .1)
-
 -- one test alone
 pub unless-alone : (n : ℕ) (b : Bool) → (n ≡ 0 → ⊥) → unless n b ≡ firstRefusal (unless n b ∷ [])
 unfolding firstRefusal

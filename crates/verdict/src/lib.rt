@@ -22,9 +22,9 @@ ghost use Rattle.verdict.specs.Ruling.{
   answerOf,
 };
 use balance::balances::fill_balances;
+use books::rows::ROW;
 use books::waters::fill_waters;
 use grid::Grid;
-use grid::units::MOST_BLOCKS;
 use search::count_places;
 use search::first_place;
 use search::largest;
@@ -48,9 +48,6 @@ pub struct Answer {
     pub refusal: Refusal,
     pub verdict: Verdict,
 }
-
-// Two numbers for each block of the largest grid.
-const ROW: usize = 2 * MOST_BLOCKS;
 
 // What stands beside a refusal.
 const NO_VERDICT: Verdict = Verdict {

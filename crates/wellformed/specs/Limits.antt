@@ -74,8 +74,11 @@ unfoldable pub limitsOf : Case → List Refusal
 limitsOf c = blaming 9 (firstAtFault c 9) ∷ blaming 10 (firstAtFault c 10) ∷ []
 
 -- "Slices are judged 3, 7, 4, 5, 6, 9, 10"
+abbrev pub checksOf : Case → List Refusal
+checksOf c = (shapeOf c ++ contentsOf c) ++ limitsOf c
+
 abbrev pub checkedOf : Case → Refusal
-checkedOf c = firstRefusal ((shapeOf c ++ contentsOf c) ++ limitsOf c)
+checkedOf c = firstRefusal (checksOf c)
 
 -- ---- what is required of two active blocks and their face
 

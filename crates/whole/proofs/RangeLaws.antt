@@ -12,7 +12,7 @@ use Prim.Native.Nat.{ℕ, suc, _-_, _^_, _≤_, _<_}
 use native.Mathlib.Nat.{mod-le, lt-of-le-of-lt}
 use native.Mathlib.Omega.{arith}
 use lib.Dec.{T, ltb, ltb→lt}
-use lib.IntN.{ℤ, pos, negsuc, negℤ, _+ℤ_, _-ℤ_, _*ℤ_, natAbs}
+use lib.IntN.{ℤ, pos, negsuc, negℤ, _+ℤ_, _-ℤ_, _*ℤ_, natAbs, +ℤ-idl}
 use lib.Signed.{_≤ℤ_, _<ℤ_, leZ, ltZ, leZ-yes, ≤ℤ-refl, mag, remZ, ltZ-yes, ltZ-no, nonNeg, yes-nonNeg, pos-natAbs}
 use mir.Syntax.{w64}
 use mir.Val.{SFits, Fits, toZ, ofZ}
@@ -185,6 +185,14 @@ read-back z h = toZ-ofZ w64 z (record { sfits = h })
 -- what a call answers, read back, is what it ensures
 pub answer : {z v : ℤ} → mag z < 2 ^ 63 → z ≡ v → toZ w64 (ofZ w64 z) ≡ v
 answer {z} h e = read-back z h ∙ e
+
+-- a number with its sign turned, as the machine works it out
+pub negated : {l h z v : ℤ} → z ≡ v → In l h v → T (ok l h) → T (ok (negℤ h) (negℤ l)) → toZ w64 (ofZ w64 (pos 0 -ℤ toZ w64 (ofZ w64 z))) ≡ negℤ v
+negated {l} {h} {z} {v} e i s t =
+    ap (λ x. toZ w64 (ofZ w64 (pos 0 -ℤ toZ w64 (ofZ w64 x)))) e
+    ∙ ap (λ x. toZ w64 (ofZ w64 (pos 0 -ℤ x))) (read i s)
+    ∙ ap (λ x. toZ w64 (ofZ w64 x)) (+ℤ-idl (negℤ v))
+    ∙ read (record { low = neg-low v h (i .high); high = neg-low l v (i .low) }) t
 
 -- any i64, and one that is at least l
 sfits-in : (z : ℤ) → SFits w64 z → (negsuc (2 ^ 63 - 1) ≤ℤ z) × (z ≤ℤ pos (2 ^ 63 - 1))

@@ -8,11 +8,12 @@ use native.Mathlib.Omega.{arith}
 use native.Mathlib.Nat.{mul-le-mul-left}
 use native.Mathlib.Numerals.{add-one}
 use native.Mathlib.Decide.{ℕ-discrete, decLe, decLt}
-use lib.IntN.{ℤ, pos, negℤ, natAbs, _+ℤ_, +ℤ-idl, +ℤ-idr, negℤ-+ℤ}
+use lib.IntN.{ℤ, pos, negℤ, natAbs, _+ℤ_, _-ℤ_, +ℤ-idl, +ℤ-idr, negℤ-+ℤ}
+use lib.Signed.{_≤ℤ_, ≤ℤ-refl}
 use lib.Dec.{T, leb, eqb, leb→le, le→leb, eqb→eq, eqb-refl}
 use Rattle.whole.specs.Whole.{Abs}
 use Rattle.whole.specs.Sum.{only, sum, back, count}
-use Rattle.whole.proofs.LinearLaws.{linear, signed, sizes, #}
+use Rattle.whole.proofs.LinearLaws.{linear, from2, signed, sizes, #}
 use Rattle.whole.proofs.OrderLaws.{abs-in, in-abs}
 
 -- ---- a test before a term
@@ -75,6 +76,10 @@ pub sum-neg : (n : ℕ) (f : ℕ → ℤ) → sum n (λ i. negℤ (f i)) ≡ neg
 unfolding sum
 sum-neg zero f = refl
 sum-neg (suc n) f = ap (λ x. x +ℤ negℤ (f n)) (sum-neg n f) ∙ sym (negℤ-+ℤ (sum n f) (f n))
+
+-- the sum of differences and a third number
+pub sum-less-add : (n : ℕ) (f g h : ℕ → ℤ) → sum n (λ i. f i -ℤ g i +ℤ h i) ≡ sum n f -ℤ sum n g +ℤ sum n h
+sum-less-add n f g h = sum-add n (λ i. f i -ℤ g i) h ∙ ap (λ x. x +ℤ sum n h) (sum-add n f (λ i. negℤ (g i)) ∙ ap (λ x. sum n f +ℤ x) (sum-neg n g))
 
 pub sum-zero : (n : ℕ) → sum n (λ i. pos 0) ≡ pos 0
 unfolding sum
@@ -199,6 +204,11 @@ sum-in n k t g l h =
   where
     all : (n : ℕ) → count n (λ i. true) ≤ n
     all n = count-most n (λ i. true)
+
+pub sum-not-negative : (n : ℕ) (f : ℕ → ℤ) → ((i : ℕ) → pos 0 ≤ℤ f i) → pos 0 ≤ℤ sum n f
+unfolding sum
+sum-not-negative zero f h = ≤ℤ-refl (pos 0)
+sum-not-negative (suc n) f h = from2 (sum-not-negative n f h) (h n) (search (signed, # (sum n f), # (f n)) depth 30) (omega arith)
 
 -- ---- how many pass a test: alike, and as a loop counts
 pub count-same : (n : ℕ) (f g : ℕ → Bool) → ((i : ℕ) → i < n → f i ≡ g i) → count n f ≡ count n g

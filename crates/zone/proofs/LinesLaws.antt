@@ -7,17 +7,16 @@ use native.Mathlib.Omega.{arith}
 use lib.Dec.{T}
 use lib.IntN.{+ℤ-idl, +ℤ-idr, _+ℤ_, _-ℤ_, negℤ, pos, ℤ}
 use lib.Signed.{_<ℤ_, _≤ℤ_}
-use types.Kit.{some}
 use Rattle.whole.specs.Sum.{back, only, sum}
 use Rattle.whole.proofs.LinearLaws.{#, from1, linear, signed}
 use Rattle.whole.proofs.OrderLaws.{<ℤ-≤ℤ, maxℤ-left, maxℤ-right, ≤ℤ-or-<}
 use Rattle.whole.proofs.SearchLaws.{both, holds, joint, same-test}
-use Rattle.whole.proofs.SumLaws.{only-add, only-back, only-off, only-sum, only-zero, sum-add, sum-move, sum-neg, sum-same, sum-swap}
+use Rattle.whole.proofs.SumLaws.{only-add, only-back, only-off, only-sum, only-zero, sum-add, sum-less-add, sum-move, sum-same, sum-swap}
 use Rattle.grid.specs.declared.Grid.{Grid}
 use Rattle.grid.specs.Place.{Counted, blocksOf, strideOf}
 use Rattle.grid.specs.Units.{above}
 use Rattle.grid.proofs.PlaceLaws.{next-inside}
-use Rattle.slices.specs.Slices.{Case, none}
+use Rattle.slices.specs.Slices.{Case}
 use Rattle.wellformed.specs.Links.{activeOf, liveOf}
 use Rattle.wellformed.proofs.LinksLaws.{live-high, live-low, live-next}
 use Rattle.books.specs.Bookkeeping.{Books, booksOf, broughtOf}
@@ -25,7 +24,7 @@ use Rattle.books.proofs.CarriedLaws.{books-lateral, brought-dead}
 use Rattle.balance.specs.Balance.{balanceIn, flowsOf, throughOf}
 use Rattle.zone.specs.Accounts.{crossed}
 use Rattle.zone.specs.Exchange.{atEdge, changes, convertedAt, edgeOf, edgesOf, inflowOf, outflowOf}
-use Rattle.zone.specs.Holdings.{ownIn, remainderOf}
+use Rattle.zone.specs.Holdings.{ownIn, settledOf}
 use Rattle.zone.specs.Table.{linesBy, linesOf, termsOf, totalsOf}
 use Rattle.zone.specs.Zones.{differ, inZone}
 use Rattle.zone.proofs.TermLaws.{no-gain}
@@ -68,14 +67,11 @@ link-crosses g F z d i =
 
 -- ---- the three links that lead on from a block
 
-sum-crossed : (n : ℕ) (f g h : ℕ → ℤ) → sum n (λ i. f i -ℤ g i +ℤ h i) ≡ sum n f -ℤ sum n g +ℤ sum n h
-sum-crossed n f g h = sum-add n (λ i. f i -ℤ g i) h ∙ ap (λ x. x +ℤ sum n h) (sum-add n f (λ i. negℤ (g i)) ∙ ap (λ x. sum n f +ℤ x) (sum-neg n g))
-
 block-crosses : (g : Grid) (F : Books) (z : ℕ → Bool) (i : ℕ)
     → edgesOf g F z i .inflow -ℤ edgesOf g F z i .outflow +ℤ sum 3 (λ d. turnedAt g F z d i) ≡ sum 3 (λ d. toMarked g F z d i)
 unfolding edgesOf
 block-crosses g F z i =
-    sym (sum-crossed 3 (λ d. inflowOf (edgeOf g F z d i)) (λ d. outflowOf (edgeOf g F z d i)) (λ d. turnedAt g F z d i))
+    sym (sum-less-add 3 (λ d. inflowOf (edgeOf g F z d i)) (λ d. outflowOf (edgeOf g F z d i)) (λ d. turnedAt g F z d i))
     ∙ sum-same 3 (λ d. inflowOf (edgeOf g F z d i) -ℤ outflowOf (edgeOf g F z d i) +ℤ turnedAt g F z d i) (λ d. toMarked g F z d i)
     (λ d l. ap (λ x. x +ℤ turnedAt g F z d i) (in-less-out (edgeOf g F z d i)) ∙ link-crosses g F z d i)
 
@@ -108,7 +104,7 @@ module _ (c : Case) (counted : Counted (c .grid)) (fluid : ℕ) where
   crosses-links : (z : ℕ → Bool) → crossed (linesOf c z fluid) ≡ sum n (λ i. sum 3 (λ d. toMarked g F z d i))
   unfolding linesBy totalsOf termsOf
   crosses-links z =
-      sym (sum-crossed n (λ i. edgesOf g F z i .inflow) (λ i. edgesOf g F z i .outflow) (convertedAt g F z))
+      sym (sum-less-add n (λ i. edgesOf g F z i .inflow) (λ i. edgesOf g F z i .outflow) (convertedAt g F z))
       ∙ sum-same n (λ i. edgesOf g F z i .inflow -ℤ edgesOf g F z i .outflow +ℤ convertedAt g F z i) (λ i. sum 3 (λ d. toMarked g F z d i))
       (λ i l. ap (λ x. edgesOf g F z i .inflow -ℤ edgesOf g F z i .outflow +ℤ x) (sym (turned-converted z i)) ∙ block-crosses g F z i)
 
@@ -200,9 +196,9 @@ module _ (c : Case) (counted : Counted (c .grid)) (fluid : ℕ) where
     unfolding ownIn inZone
     own-same i l = rw (alike i l)
 
-    remainder-same : (i : ℕ) → i < n → remainderOf (inZone (c .slots) z i) (F .fixed i) (balanceIn g F i) ≡ remainderOf (inZone (c .slots) w i) (F .fixed i) (balanceIn g F i)
+    settled-alike : (i : ℕ) → i < n → settledOf (inZone (c .slots) z i) (F .fixed i) (balanceIn g F i) ≡ settledOf (inZone (c .slots) w i) (F .fixed i) (balanceIn g F i)
     unfolding inZone
-    remainder-same i l = rw (alike i l)
+    settled-alike i l = rw (alike i l)
 
 -- A row depends on the marks of the grid's blocks alone: a link that leads outside brings nothing.
 pub lines-same : (c : Case) → Counted (c .grid) → (z w : ℕ → Bool) → ((i : ℕ) → i < blocksOf (c .grid) → z i ≡ w i) → (fluid : ℕ) → linesOf c z fluid ≡ linesOf c w fluid
@@ -211,7 +207,7 @@ lines-same c counted z w alike fluid =
     let n = blocksOf (c .grid) in
     let own = own-same c counted fluid z w alike in
     let edge = edge-same c counted fluid z w alike in
-    let remainder = remainder-same c counted fluid z w alike in
+    let settled = settled-alike c counted fluid z w alike in
     λ k. record {
       storage = sum-same n _ _ (λ i l. ap (λ o. o .storage) (own i l)) k;
       «edge_in» = sum-same n _ _ (λ i l. sum-same 3 _ _ (λ d h. ap inflowOf (edge d i l))) k;
@@ -220,6 +216,6 @@ lines-same c counted z w alike fluid =
       wells = sum-same n _ _ (λ i l. ap (λ o. negℤ (o .pumped)) (own i l)) k;
       recharge = sum-same n _ _ (λ i l. ap (λ o. o .recharge) (own i l)) k;
       boundary = sum-same n _ _ (λ i l. ap (λ o. o .boundary) (own i l)) k;
-      supply = sum-same n _ _ (λ i l. ap (λ r. r .supply) (remainder i l)) k;
-      error = sum-same n _ _ (λ i l. ap (λ r. r .error) (remainder i l)) k;
+      supply = sum-same n _ _ (λ i l. ap (λ r. r .supply) (settled i l)) k;
+      error = sum-same n _ _ (λ i l. ap (λ r. r .error) (settled i l)) k;
     }

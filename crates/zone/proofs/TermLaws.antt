@@ -31,9 +31,9 @@ use Rattle.books.proofs.TermsLaws.{own-boundary-in, own-pumped-in, own-recharge
 use Rattle.balance.specs.Balance.{balanceIn, balancesOf, mostBalance}
 use Rattle.balance.proofs.BalanceLaws.{balance-active, balance-in, balance-in-fluid}
 use Rattle.zone.specs.declared.lines.Lines.{Lines}
-use Rattle.zone.specs.declared.own.Rest.{Rest}
+use Rattle.zone.specs.declared.own.Settlement.{Settlement}
 use Rattle.zone.specs.Exchange.{atEdge, changes, convertedAt, edgeOf, edgesOf, inflowOf, outflowOf}
-use Rattle.zone.specs.Holdings.{nothing, ownIn, remainderOf}
+use Rattle.zone.specs.Holdings.{nothing, ownIn, settledOf}
 use Rattle.zone.specs.Table.{termsOf}
 use Rattle.zone.specs.Zones.{differ, inZone}
 
@@ -131,11 +131,11 @@ module _ (c : Case) (formed : WellFormed c) (fluid : ℕ) (z : ℕ → Bool) (i 
   pub own-in-pumped : Abs mostPumpage (owned .pumped)
   own-in-pumped = own-in .1 .0
 
-  abbrev rest : Rest
-  rest = remainderOf (inZone (c .slots) z i) (booksOf c fluid .fixed i) (balanceIn (c .grid) (booksOf c fluid) i)
+  abbrev rest : Settlement
+  rest = settledOf (inZone (c .slots) z i) (booksOf c fluid .fixed i) (balanceIn (c .grid) (booksOf c fluid) i)
 
   rest-in : Abs mostBalance (rest .supply) × Abs mostBalance (rest .error)
-  unfolding remainderOf
+  unfolding settledOf
   rest-in = go (inZone (c .slots) z i) refl
     where
       balance : ℤ
@@ -173,15 +173,15 @@ module _ (c : Case) (formed : WellFormed c) (fluid : ℕ) (z : ℕ → Bool) (i 
       }
 
 -- the balance counts in a zone alone
-pub remainder-same : (marked fixed : Bool) (a b : ℤ) → (T marked → a ≡ b) → remainderOf marked fixed a ≡ remainderOf marked fixed b
-unfolding remainderOf
-remainder-same true fixed a b h = λ k. record { supply = only fixed (negℤ (h tt k)); error = only (not fixed) (h tt k) }
-remainder-same false fixed a b h = refl
+pub settled-same : (marked fixed : Bool) (a b : ℤ) → (T marked → a ≡ b) → settledOf marked fixed a ≡ settledOf marked fixed b
+unfolding settledOf
+settled-same true fixed a b h = λ k. record { supply = only fixed (negℤ (h tt k)); error = only (not fixed) (h tt k) }
+settled-same false fixed a b h = refl
 
 -- and is read from a row of balances
-pub remainder-read : (c : Case) (row : List ℤ) → Row (blocksOf (c .grid)) (balancesOf c) row → (fluid : ℕ) → fluid < 2 → (z : ℕ → Bool) (i : ℕ) → i < blocksOf (c .grid)
-    → remainderOf (inZone (c .slots) z i) (fixedOf (lowOf c i) fluid) (inFluid (pairOf row i) fluid) ≡ remainderOf (inZone (c .slots) z i) (booksOf c fluid .fixed i) (balanceIn (c .grid) (booksOf c fluid) i)
+pub settled-read : (c : Case) (row : List ℤ) → Row (blocksOf (c .grid)) (balancesOf c) row → (fluid : ℕ) → fluid < 2 → (z : ℕ → Bool) (i : ℕ) → i < blocksOf (c .grid)
+    → settledOf (inZone (c .slots) z i) (fixedOf (lowOf c i) fluid) (inFluid (pairOf row i) fluid) ≡ settledOf (inZone (c .slots) z i) (booksOf c fluid .fixed i) (balanceIn (c .grid) (booksOf c fluid) i)
 unfolding booksOf
-remainder-read c row filled fluid h z i l =
-    remainder-same (inZone (c .slots) z i) (fixedOf (lowOf c i) fluid) (inFluid (pairOf row i) fluid) (balanceIn (c .grid) (booksOf c fluid) i)
+settled-read c row filled fluid h z i l =
+    settled-same (inZone (c .slots) z i) (fixedOf (lowOf c i) fluid) (inFluid (pairOf row i) fluid) (balanceIn (c .grid) (booksOf c fluid) i)
     (λ t. rw (filled .each i l) (balance-in-fluid c fluid i h ∙ balance-active c fluid i (zone-active (c .slots) z i (true-is t))))

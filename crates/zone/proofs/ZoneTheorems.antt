@@ -2,19 +2,19 @@
 use mathlib.Core.Bool.{Bool, _&&_, _||_, cond, false, not, true}
 use mathlib.Core.List.{List}
 use mathlib.Core.Path.{_∙_, _≡_, ap, ap₂, refl, sym}
-use Prim.Native.Nat.{_*_, _+_, _<_, _≤_, suc, zero, ℕ}
+use Prim.Native.Nat.{_*_, _+_, _<_, _≤_, ℕ}
 use native.Mathlib.Omega.{arith}
 use lib.Dec.{T}
 use lib.IntN.{+ℤ-idl, +ℤ-idr, _+ℤ_, _-ℤ_, natAbs, negℤ, pos, ℤ}
-use lib.Signed.{_≤ℤ_, ≤ℤ-refl}
+use lib.Signed.{_≤ℤ_}
 use Rattle.whole.specs.Sum.{count, only, sum}
-use Rattle.whole.proofs.LinearLaws.{#, from2, linear, signed}
+use Rattle.whole.proofs.LinearLaws.{#, linear, signed}
 use Rattle.whole.proofs.OrderLaws.{maxℤ-l}
-use Rattle.whole.proofs.SumLaws.{sum-add, sum-bound, sum-none, sum-same}
+use Rattle.whole.proofs.SumLaws.{sum-add, sum-bound, sum-none, sum-not-negative, sum-same}
 use Rattle.grid.specs.declared.Grid.{Grid}
 use Rattle.grid.specs.Place.{Counted, blocksOf, strideOf}
 use Rattle.grid.specs.Units.{above}
-use Rattle.slices.specs.Slices.{Case, none}
+use Rattle.slices.specs.Slices.{Case}
 use Rattle.block.specs.Fluids.{fresh, salt}
 use Rattle.wellformed.specs.Links.{activeOf}
 use Rattle.books.specs.declared.own.Own.{Own}
@@ -23,7 +23,7 @@ use Rattle.books.proofs.BooksTheorems.{leakage-shared}
 use Rattle.balance.specs.Balance.{balanceIn, flowsOf}
 use Rattle.zone.specs.Accounts.{Adds, Apart, Closes, freeIn, joined}
 use Rattle.zone.specs.Exchange.{atEdge, changes, convertedAt, edgeOf, edgesOf}
-use Rattle.zone.specs.Holdings.{nothing, ownIn, remainderOf}
+use Rattle.zone.specs.Holdings.{nothing, ownIn, settledOf}
 use Rattle.zone.specs.Table.{linesBy, linesOf, termsOf, totalsOf}
 use Rattle.zone.specs.Zones.{differ, inZone}
 use Rattle.zone.proofs.LinesLaws.{crosses-flows}
@@ -33,9 +33,9 @@ use Rattle.zone.proofs.LinesLaws.{crosses-flows}
 -- what one block gives, marked and active or not, fixed or not
 block-closes : (marked fixed : Bool) (own : Own) (flows : ℤ)
     → let balance = flows +ℤ own .recharge +ℤ own .boundary -ℤ own .pumped -ℤ own .storage in
-    cond marked own nothing .storage +ℤ remainderOf marked fixed balance .error
-    ≡ only marked flows +ℤ negℤ (cond marked own nothing .pumped) +ℤ cond marked own nothing .recharge +ℤ cond marked own nothing .boundary +ℤ remainderOf marked fixed balance .supply
-unfolding remainderOf
+    cond marked own nothing .storage +ℤ settledOf marked fixed balance .error
+    ≡ only marked flows +ℤ negℤ (cond marked own nothing .pumped) +ℤ cond marked own nothing .recharge +ℤ cond marked own nothing .boundary +ℤ settledOf marked fixed balance .supply
+unfolding settledOf
 block-closes true true own flows = linear (search (signed, # (own .storage), # (own .pumped), # (own .recharge), # (own .boundary), # flows) depth 30) (omega arith)
 block-closes true false own flows = linear (search (signed, # (own .storage), # (own .pumped), # (own .recharge), # (own .boundary), # flows) depth 30) (omega arith)
 block-closes false fixed own flows = refl
@@ -69,7 +69,7 @@ line-adds g slots z w apart x none =
 -- "storage, wells, recharge, boundary, supply and error of the joined zone are the sums of the two; edge in less edge out plus converted also adds
 -- exactly"
 pub adds : (c : Case) → Counted (c .grid) → (z w : ℕ → Bool) → Apart (c .grid) z w → (fluid : ℕ) → Adds (linesOf c z fluid) (linesOf c w fluid) (linesOf c (joined z w) fluid)
-unfolding linesBy totalsOf termsOf ownIn remainderOf
+unfolding linesBy totalsOf termsOf ownIn settledOf
 adds c counted z w apart fluid =
     let F = booksOf c fluid in
     let line = line-adds (c .grid) (c .slots) z w apart in
@@ -85,11 +85,6 @@ adds c counted z w apart fluid =
     }
 
 -- ---- edges
-
-sum-not-negative : (n : ℕ) (f : ℕ → ℤ) → ((i : ℕ) → pos 0 ≤ℤ f i) → pos 0 ≤ℤ sum n f
-unfolding sum
-sum-not-negative zero f h = ≤ℤ-refl (pos 0)
-sum-not-negative (suc n) f h = from2 (sum-not-negative n f h) (h n) (search (signed, # (sum n f), # (f n)) depth 30) (omega arith)
 
 -- Edge in and edge out are never negative.
 pub edges-not-negative : (g : Grid) (slots : List ℤ) (F : Books) (z : ℕ → Bool) → (pos 0 ≤ℤ linesBy g slots F z .«edge_in») × (pos 0 ≤ℤ linesBy g slots F z .«edge_out»)
@@ -133,5 +128,5 @@ conversions-cancel c z =
 
 -- Where no free balance of a zone is above a number, without sign, its error is at most that number times the count of its free blocks.
 pub error-bounded : (g : Grid) (slots : List ℤ) (F : Books) (z : ℕ → Bool) (most : ℕ) → ((i : ℕ) → i < blocksOf g → T (freeIn slots F z i) → natAbs (balanceIn g F i) ≤ most) → natAbs (linesBy g slots F z .error) ≤ most * count (blocksOf g) (freeIn slots F z)
-unfolding linesBy totalsOf termsOf remainderOf freeIn
+unfolding linesBy totalsOf termsOf settledOf freeIn
 error-bounded g slots F z most h = sum-bound (blocksOf g) most (freeIn slots F z) (balanceIn g F) h

@@ -40,6 +40,6 @@ Apart g z w = (i : ℕ) → i < blocksOf g → T (not (z i && w i))
 abbrev pub joined : (ℕ → Bool) → (ℕ → Bool) → ℕ → Bool
 joined z w i = z i || w i
 
--- the marked active blocks that are free in a fluid, by its books
+-- Demand 3: "the zone's active blocks that are free in that fluid", by the fluid's books
 unfoldable pub freeIn : List ℤ → Books → (ℕ → Bool) → ℕ → Bool
 freeIn slots F z i = inZone slots z i && not (F .fixed i)

@@ -22,7 +22,7 @@ atEdge g z d i = differ (z i) (z (i + strideOf g d))
 unfoldable pub edgeOf : Grid → Books → (ℕ → Bool) → ℕ → ℕ → ℤ
 edgeOf g F z d i = only (atEdge g z d i) (broughtOf F (z i) d i)
 
--- both positive litres, link by link
+-- read as positive litres both, link by link (docs/DECISIONS.md, "Zones")
 abbrev pub inflowOf : ℤ → ℤ
 inflowOf gain = maxℤ (pos 0) gain
 

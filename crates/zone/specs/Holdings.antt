@@ -6,7 +6,7 @@ use lib.IntN.{negℤ, pos, ℤ}
 use Rattle.whole.specs.Sum.{only}
 use Rattle.books.specs.declared.own.Own.{Own}
 use Rattle.books.specs.Bookkeeping.{Books}
-use Rattle.zone.specs.declared.own.Rest.{Rest}
+use Rattle.zone.specs.declared.own.Settlement.{Settlement}
 use Rattle.zone.specs.Zones.{inZone}
 
 abbrev pub nothing : Own
@@ -18,8 +18,8 @@ ownIn slots F z i = cond (inZone slots z i) (F .own i) nothing
 
 -- "Supply is minus the balance, summed over marked active blocks fixed in that fluid; error is the balance summed over the other marked active
 -- blocks."
-unfoldable pub remainderOf : Bool → Bool → ℤ → Rest
-remainderOf marked fixed balance =
+unfoldable pub settledOf : Bool → Bool → ℤ → Settlement
+settledOf marked fixed balance =
     record {
       supply = only (marked && fixed) (negℤ balance);
       error = only (marked && not fixed) balance;

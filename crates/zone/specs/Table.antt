@@ -16,7 +16,7 @@ use Rattle.books.specs.Rows.{Row}
 use Rattle.balance.specs.Balance.{balanceIn, balancesOf}
 use Rattle.zone.specs.declared.lines.Lines.{Lines}
 use Rattle.zone.specs.Exchange.{convertedAt, edgesOf}
-use Rattle.zone.specs.Holdings.{ownIn, remainderOf}
+use Rattle.zone.specs.Holdings.{ownIn, settledOf}
 use Rattle.zone.specs.Zones.{inZone}
 
 -- what a block, with the three links that lead on from it, gives to each line of a fluid's row; "wells (negative where pumped)"
@@ -30,8 +30,8 @@ termsOf g slots F z i =
       wells = negℤ (ownIn slots F z i .pumped);
       recharge = ownIn slots F z i .recharge;
       boundary = ownIn slots F z i .boundary;
-      supply = remainderOf (inZone slots z i) (F .fixed i) (balanceIn g F i) .supply;
-      error = remainderOf (inZone slots z i) (F .fixed i) (balanceIn g F i) .error;
+      supply = settledOf (inZone slots z i) (F .fixed i) (balanceIn g F i) .supply;
+      error = settledOf (inZone slots z i) (F .fixed i) (balanceIn g F i) .error;
     }
 
 -- the sums of n such rows

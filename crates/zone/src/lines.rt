@@ -9,7 +9,7 @@ ghost use Rattle.zone.specs.Table.{termsOf, Ready};
 use super::links::converted;
 use super::links::edges;
 use super::own::own_in_zone;
-use super::own::remainder;
+use super::own::settle;
 use grid::Grid;
 use grid::place::place_of;
 
@@ -47,7 +47,7 @@ pub fn terms(
     let place = place_of(g, block);
     let edge = edges(g, columns, rows, slots, waters, marks, block, place, fluid);
     let own = own_in_zone(g, columns, rows, slots, waters, marks, block, place, fluid);
-    let rest = remainder(g, slots, balances, marks, block, fluid);
+    let rest = settle(g, slots, balances, marks, block, fluid);
     Lines {
         storage: own.storage,
         edge_in: edge.inflow,

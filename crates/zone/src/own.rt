@@ -13,7 +13,7 @@ ghost use Rattle.books.specs.Terms.{fixedOf};
 ghost use Rattle.books.specs.Bookkeeping.{booksOf};
 ghost use Rattle.balance.specs.Balance.{Bounded};
 ghost use Rattle.zone.specs.Zones.{markedOf, inZone};
-ghost use Rattle.zone.specs.Holdings.{ownIn, remainderOf};
+ghost use Rattle.zone.specs.Holdings.{ownIn, settledOf};
 use super::marks::in_zone;
 use block::in_fluid;
 use books::own::Own;
@@ -25,7 +25,7 @@ use grid::place::Place;
 use slots::load;
 
 // What a block's balance gives to "supply" and "error", litres a day.
-pub struct Rest {
+pub struct Settlement {
     pub supply: i64,
     pub error: i64,
 }
@@ -65,34 +65,34 @@ pub fn own_in_zone(
 
 // What a block's balance in a fluid gives to supply where its head is fixed, to error where it is free. Inner: slots and balances are in range,
 // the marks reach over the grid, and the block is inside.
-pub fn remainder(
+pub fn settle(
     g: Grid,
     slots: &[i64],
     balances: &[i64],
     marks: &[i64],
     block: usize,
     fluid: usize,
-) -> Rest
+) -> Settlement
     requires { ⌜ Slotted g (now slots) ⌝ }
     requires { ⌜ Bounded (blocksOf g) (now balances) ⌝ }
     requires { ⌜ blocksOf g ≤ length (now marks) ⌝ }
     requires { ⌜ block < blocksOf g ⌝ }
-    ensures { λ r. ⌜ r ≡ remainderOf (inZone (now (slots .entry)) (markedOf (now (marks .entry))) block) (fixedOf (blockOf (now (slots .entry)) block) fluid) (inFluid (pairOf (now (balances .entry)) block) fluid) ⌝ }
+    ensures { λ r. ⌜ r ≡ settledOf (inZone (now (slots .entry)) (markedOf (now (marks .entry))) block) (fixedOf (blockOf (now (slots .entry)) block) fluid) (inFluid (pairOf (now (balances .entry)) block) fluid) ⌝ }
 {
     if in_zone(slots, marks, block) {
         let balance = in_fluid(pair(balances, block), fluid);
         if is_fixed(load(slots, block), fluid) {
-            return Rest {
+            return Settlement {
                 supply: -balance,
                 error: 0,
             };
         }
-        return Rest {
+        return Settlement {
             supply: 0,
             error: balance,
         };
     }
-    Rest {
+    Settlement {
         supply: 0,
         error: 0,
     }

@@ -30,7 +30,9 @@ watered : (c : tie.After-fill-waters) → Watered (c .before .before .args .g) (
 watered c = rw (c .fill-waters .ensures) (filled-row (blocksOf (c .before .before .args .g)) (watersOf (c .before .before .args .g) (c .before .before .args .slots .now)) _ (room (c .before .before)))
 
 returns : tie.Need-returns
-returns c = rw (← c .before .first-dry .ensures) (dry-tabled (c .before .first-dry .result) (eighteenOf (caseIn (c .before .before .before .before .before .before)) (markedOf (c .before .before .before .before .before .before .args .marks .now))) (c .if1 .taken))
+returns c =
+    c .refused .ensures
+    ∙ rw (← c .before .before .first-dry .ensures) (dry-tabled (c .before .before .first-dry .result) (eighteenOf (caseIn (c .before .before .before .before .before .before .before)) (markedOf (c .before .before .before .before .before .before .before .args .marks .now))) (c .before .if1 .taken))
 
 balanced : (c : tie.After-fill-balances) → Row (blocksOf (c .before .before .before .before .before .before .before .before .before .args .g)) (balancesOf (caseIn (c .before .before .before .before .before .before .before .before .before))) (c .fill-balances .last .1 .1 .1 .1 .1 .0)
 balanced c = rw (c .fill-balances .ensures) (filled-row (blocksOf (c .before .before .before .before .before .before .before .before .before .args .g)) (balancesOf (caseIn (c .before .before .before .before .before .before .before .before .before))) _ (room (c .before .before .before .before .before .before .before .before .before)))
@@ -50,6 +52,7 @@ account-spec =
     (λ c κs. (ready (c .before), room (c .before)))
     (λ c. search needs)
     (λ c κs. (ready (c .before .before .before .before), watered (c .before .before)))
+    (λ c κs. search needs)
     returns
     (λ c. search needs)
     (λ c. search needs)

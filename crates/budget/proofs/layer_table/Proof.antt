@@ -1,5 +1,4 @@
 -- `layer_table` meets its contract: the blocks of the layer are marked. Assumes nothing.
-use mathlib.Core.List.{List, _++_}
 use mathlib.Core.Path.{_∙_, _≡_, ap}
 use Prim.Native.Nat.{_<_, _≤_, ℕ}
 use native.Mathlib.Omega.{arith}
@@ -7,9 +6,8 @@ use lib.IntN.{pos}
 use lib.ListN.{length, replicate}
 use borrow.Author.Needs.{needs}
 use Rattle.grid.specs.Place.{blocksOf}
-use Rattle.slices.specs.declared.Refusal.{Refusal}
-use Rattle.slices.specs.Slices.{Case, caseOf, contentsOf, firstRefusal, shapeOf}
-use Rattle.wellformed.specs.Limits.{WellFormed, limitsOf}
+use Rattle.slices.specs.Slices.{Case, caseOf, firstRefusal}
+use Rattle.wellformed.specs.Limits.{WellFormed, checksOf}
 use Rattle.wellformed.proofs.LimitsLaws.{checked-stands}
 use Rattle.zone.specs.Zones.{markedOf}
 use Rattle.budget.specs.Answers.{eighteenOf, layerAnswer, layerZone, tabled, wellChecks}
@@ -20,13 +18,11 @@ use Rattle.budget.proofs.layer_table.Tie as tie
 abbrev caseIn : tie.Start → Case
 caseIn c = caseOf (c .args .g) (c .args .columns .now) (c .args .rows .now) (c .args .slots .now)
 
-abbrev checks : tie.Start → List Refusal
-checks c = (shapeOf (caseIn c) ++ contentsOf (caseIn c)) ++ limitsOf (caseIn c)
-
 returns : tie.Need-returns
 unfolding layerAnswer
 returns c =
-    tabled-stays (checks (c .before .before .before)) (wellChecks (caseIn (c .before .before .before))) (c .before .before .check-slices .result) (eighteenOf (caseIn (c .before .before .before)) (layerZone (c .before .before .before .args .g) (c .before .before .before .args .layer))) (c .before .before .check-slices .ensures) (c .if1 .taken)
+    c .refused .ensures
+    ∙ tabled-stays (checksOf (caseIn (c .before .before .before .before))) (wellChecks (caseIn (c .before .before .before .before))) (c .before .before .before .check-slices .result) (eighteenOf (caseIn (c .before .before .before .before)) (layerZone (c .before .before .before .before .args .g) (c .before .before .before .before .args .layer))) (c .before .before .before .check-slices .ensures) (c .before .if1 .taken)
 
 formed : (c : tie.Else1) → WellFormed (caseIn (c .before .before .before))
 formed c = checked-stands (caseIn (c .before .before .before)) (rw (← c .before .before .check-slices .ensures) (c .if1 .left))
@@ -36,12 +32,12 @@ room c = omega (arith, formed c .judged .counted .blocks-most)
 
 account-requires : tie.Need-account-requires
 account-requires c κs =
-    let long : length (c .before .before .mark-layer .last .1 .1 .0) ≡ 512 = c .before .before .mark-layer .kept .1 .1 .0 in
+    let long : length (c .before .before .fill-layer-marks .last .1 .1 .0) ≡ 512 = c .before .before .fill-layer-marks .kept .1 .1 .0 in
     (formed (c .before .before .before .before), omega (arith, room (c .before .before .before .before), long))
 
 -- the marks as they stand
-marked : (c : tie.After-mark-layer) → (i : ℕ) → i < blocksOf (c .before .before .before .before .before .args .g) → markedOf (c .mark-layer .last .1 .1 .0) i ≡ layerZone (c .before .before .before .before .before .args .g) (c .before .before .before .before .before .args .layer) i
-marked c i l = rw (c .mark-layer .ensures) (marks-marked (blocksOf (c .before .before .before .before .before .args .g)) (layerZone (c .before .before .before .before .before .args .g) (c .before .before .before .before .before .args .layer)) (replicate 512 (pos 0)) (room (c .before .before)) i l)
+marked : (c : tie.After-fill-layer-marks) → (i : ℕ) → i < blocksOf (c .before .before .before .before .before .args .g) → markedOf (c .fill-layer-marks .last .1 .1 .0) i ≡ layerZone (c .before .before .before .before .before .args .g) (c .before .before .before .before .before .args .layer) i
+marked c i l = rw (c .fill-layer-marks .ensures) (marks-marked (blocksOf (c .before .before .before .before .before .args .g)) (layerZone (c .before .before .before .before .before .args .g) (c .before .before .before .before .before .args .layer)) (replicate 512 (pos 0)) (room (c .before .before)) i l)
 
 returns-2 : tie.Need-returns-2
 unfolding layerAnswer
@@ -49,13 +45,14 @@ returns-2 c =
     let s = c .before .before .before .before .before .before .before .before in
     let z = layerZone (s .args .g) (s .args .layer) in
     c .account .ensures
-    ∙ ap (tabled (firstRefusal (wellChecks (caseIn s)))) (eighteen-same (caseIn s) (formed (c .before .before .before .before .before) .judged .counted) (markedOf (c .before .before .before .mark-layer .last .1 .1 .0)) z (marked (c .before .before .before)))
-    ∙ tabled-goes-on (checks s) (wellChecks (caseIn s)) (c .before .before .before .before .before .before .before .check-slices .result) (eighteenOf (caseIn s) z) (c .before .before .before .before .before .before .before .check-slices .ensures) (c .before .before .before .before .before .if1 .left)
+    ∙ ap (tabled (firstRefusal (wellChecks (caseIn s)))) (eighteen-same (caseIn s) (formed (c .before .before .before .before .before) .judged .counted) (markedOf (c .before .before .before .fill-layer-marks .last .1 .1 .0)) z (marked (c .before .before .before)))
+    ∙ tabled-goes-on (checksOf (caseIn s)) (wellChecks (caseIn s)) (c .before .before .before .before .before .before .before .check-slices .result) (eighteenOf (caseIn s) z) (c .before .before .before .before .before .before .before .check-slices .ensures) (c .before .before .before .before .before .if1 .left)
 
 pub layer-table-spec : {M : Type 1} → statement M
 layer-table-spec =
     tie.close
     (tie.spec
+    (λ c κs. search needs)
     (λ c κs. search needs)
     returns
     (λ c. search needs)

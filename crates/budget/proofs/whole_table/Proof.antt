@@ -1,13 +1,11 @@
 -- `whole_table` meets its contract: every block is marked. Assumes nothing.
-use mathlib.Core.List.{List, _++_}
 use mathlib.Core.Path.{_∙_, ap}
 use native.Mathlib.Omega.{arith}
 use lib.IntN.{pos}
 use lib.ListN.{replicate}
 use borrow.Author.Needs.{needs}
-use Rattle.slices.specs.declared.Refusal.{Refusal}
-use Rattle.slices.specs.Slices.{Case, caseOf, contentsOf, firstRefusal, shapeOf}
-use Rattle.wellformed.specs.Limits.{WellFormed, limitsOf}
+use Rattle.slices.specs.Slices.{Case, caseOf, firstRefusal}
+use Rattle.wellformed.specs.Limits.{WellFormed, checksOf}
 use Rattle.wellformed.proofs.LimitsLaws.{checked-stands}
 use Rattle.zone.specs.Zones.{markedOf}
 use Rattle.budget.specs.Answers.{eighteenOf, everywhere, tabled, wellChecks, wholeAnswer}
@@ -18,12 +16,11 @@ use Rattle.budget.proofs.whole_table.Tie as tie
 abbrev caseIn : tie.Start → Case
 caseIn c = caseOf (c .args .g) (c .args .columns .now) (c .args .rows .now) (c .args .slots .now)
 
-abbrev checks : tie.Start → List Refusal
-checks c = (shapeOf (caseIn c) ++ contentsOf (caseIn c)) ++ limitsOf (caseIn c)
-
 returns : tie.Need-returns
 unfolding wholeAnswer
-returns c = tabled-stays (checks (c .before .before .before)) (wellChecks (caseIn (c .before .before .before))) (c .before .before .check-slices .result) (eighteenOf (caseIn (c .before .before .before)) everywhere) (c .before .before .check-slices .ensures) (c .if1 .taken)
+returns c =
+    c .refused .ensures
+    ∙ tabled-stays (checksOf (caseIn (c .before .before .before .before))) (wellChecks (caseIn (c .before .before .before .before))) (c .before .before .before .check-slices .result) (eighteenOf (caseIn (c .before .before .before .before)) everywhere) (c .before .before .before .check-slices .ensures) (c .before .if1 .taken)
 
 formed : (c : tie.Else1) → WellFormed (caseIn (c .before .before .before))
 formed c = checked-stands (caseIn (c .before .before .before)) (rw (← c .before .before .check-slices .ensures) (c .if1 .left))
@@ -35,12 +32,13 @@ returns-2 c =
     let counted = formed (c .before .before) .judged .counted in
     c .account .ensures
     ∙ ap (tabled (firstRefusal (wellChecks k))) (eighteen-same k counted (markedOf (replicate 512 (pos 1))) everywhere (λ i l. ones-marked i (omega (arith, l, counted .blocks-most))))
-    ∙ tabled-goes-on (checks (c .before .before .before .before .before)) (wellChecks k) (c .before .before .before .before .check-slices .result) (eighteenOf k everywhere) (c .before .before .before .before .check-slices .ensures) (c .before .before .if1 .left)
+    ∙ tabled-goes-on (checksOf (caseIn (c .before .before .before .before .before))) (wellChecks k) (c .before .before .before .before .check-slices .result) (eighteenOf k everywhere) (c .before .before .before .before .check-slices .ensures) (c .before .before .if1 .left)
 
 pub whole-table-spec : {M : Type 1} → statement M
 whole-table-spec =
     tie.close
     (tie.spec
+    (λ c κs. search needs)
     (λ c κs. search needs)
     returns
     (λ c. search needs)

@@ -23,7 +23,9 @@ linesIn c = eighteenOf (caseIn c) (markedOf (c .args .marks .now))
 
 returns : tie.Need-returns
 unfolding zoneAnswer
-returns c = tabled-stays (zoneChecks (caseIn (c .before .before .before)) (c .before .before .before .args .marks .now)) (wellChecks (caseIn (c .before .before .before))) (c .before .before .judge-zone .result) (linesIn (c .before .before .before)) (c .before .before .judge-zone .ensures) (c .if1 .taken)
+returns c =
+    c .refused .ensures
+    ∙ tabled-stays (zoneChecks (caseIn (c .before .before .before .before)) (c .before .before .before .before .args .marks .now)) (wellChecks (caseIn (c .before .before .before .before))) (c .before .before .before .judge-zone .result) (linesIn (c .before .before .before .before)) (c .before .before .before .judge-zone .ensures) (c .before .if1 .taken)
 
 account-requires : tie.Need-account-requires
 account-requires c κs =
@@ -37,4 +39,4 @@ returns-2 c =
     ∙ tabled-goes-on (zoneChecks (caseIn (c .before .before .before .before)) (c .before .before .before .before .args .marks .now)) (wellChecks (caseIn (c .before .before .before .before))) (c .before .before .before .judge-zone .result) (linesIn (c .before .before .before .before)) (c .before .before .before .judge-zone .ensures) (c .before .if1 .left)
 
 pub zone-table-spec : {M : Type 1} → statement M
-zone-table-spec = tie.close (tie.spec (λ c κs. search needs) returns account-requires returns-2)
+zone-table-spec = tie.close (tie.spec (λ c κs. search needs) (λ c κs. search needs) returns account-requires returns-2)

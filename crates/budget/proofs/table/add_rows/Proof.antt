@@ -8,7 +8,7 @@ use lib.Seq.{paste, paste-zero}
 use mir.Syntax.{w64}
 use mir.Val.{ofZ, toZ}
 use borrow.Author.Needs.{needs}
-use Rattle.whole.proofs.RangeLaws.{Bounds, exact, fits, leaf, ranges, within}
+use Rattle.whole.proofs.RangeLaws.{Bounds, exact, fits, leaf, ranges}
 use Rattle.budget.specs.Tables.{addRow}
 use Rattle.budget.proofs.TableLaws.{add-at, add-length, laid-over, lay-first}
 use Rattle.budget.proofs.table.add_rows.Statement.{statement}

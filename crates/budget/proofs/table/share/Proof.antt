@@ -3,7 +3,6 @@ use mathlib.Core.List.{[], _∷_}
 use mathlib.Core.Path.{_∙_, ap}
 use native.Mathlib.Omega.{arith}
 use borrow.Author.Needs.{needs}
-use Rattle.block.specs.Fluids.{fresh, salt}
 use Rattle.budget.specs.Tables.{rowOf, shareOf}
 use Rattle.budget.proofs.table.share.Statement.{statement}
 use Rattle.budget.proofs.table.share.Tie as tie

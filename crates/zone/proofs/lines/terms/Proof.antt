@@ -1,15 +1,12 @@
 -- `terms` meets its contract: the balance that supply and error take is read from the row. Assumes nothing.
 use mathlib.Core.Path.{_∙_, _≡_, ap}
 use Prim.Native.Nat.{_<_, _≤_}
-use lib.IntN.{+ℤ-idl, _-ℤ_, negℤ, pos}
 use lib.ListN.{length}
-use mir.Syntax.{w64}
-use mir.Val.{ofZ, toZ}
-use denote.Steps.{owned}
-use Rattle.whole.proofs.RangeLaws.{Bounds, answer, b-eq, exact, fits, ranges}
-use Rattle.whole.proofs.RingLaws.{rest}
+use Rattle.whole.specs.Whole.{Abs}
+use Rattle.whole.proofs.RangeLaws.{answer, b-eq, fits, negated, ranges}
 use Rattle.grid.specs.declared.place.Place.{Place}
 use Rattle.grid.specs.Place.{blocksOf, placeOf}
+use Rattle.slots.specs.Units.{mostPumpage}
 use Rattle.slices.specs.Slices.{Case, caseOf}
 use Rattle.wellformed.specs.Limits.{WellFormed}
 use Rattle.books.specs.Blocks.{Watered}
@@ -17,10 +14,10 @@ use Rattle.books.specs.Bookkeeping.{booksOf}
 use Rattle.books.proofs.BlocksLaws.{slotted}
 use Rattle.balance.specs.Balance.{balanceIn}
 use Rattle.balance.proofs.BalanceLaws.{row-bounded}
-use Rattle.zone.specs.Holdings.{ownIn, remainderOf}
+use Rattle.zone.specs.Holdings.{ownIn, settledOf}
 use Rattle.zone.specs.Table.{termsOf}
 use Rattle.zone.specs.Zones.{inZone, markedOf}
-use Rattle.zone.proofs.TermLaws.{own-in-pumped, remainder-read}
+use Rattle.zone.proofs.TermLaws.{own-in-pumped, settled-read}
 use Rattle.zone.proofs.lines.terms.Statement.{statement}
 use Rattle.zone.proofs.lines.terms.Tie as tie
 
@@ -37,8 +34,8 @@ Placed c place =
 placed : (c : tie.After-place-of) → Placed (c .before) (c .place-of .result)
 placed c = let h = c .before .pre in (h .0 .formed, (h .0 .watered, (h .0 .reach, (h .1 .0, c .place-of .ensures))))
 
-remainder-requires : tie.Need-remainder-requires
-remainder-requires c κs =
+settle-requires : tie.Need-settle-requires
+settle-requires c κs =
     let s = c .before .before .before in
     (slotted (caseIn s) (s .pre .0 .formed .judged), (row-bounded (caseIn s) (s .pre .0 .formed) (s .args .balances .now) (s .pre .0 .balanced), (s .pre .0 .reach, s .pre .1 .0)))
 
@@ -46,21 +43,16 @@ remainder-requires c κs =
 own-is : (c : tie.After-own-in-zone) → c .own-in-zone .result ≡ ownIn (c .before .before .before .args .slots .now) (booksOf (caseIn (c .before .before .before)) (c .before .before .before .args .fluid)) (markedOf (c .before .before .before .args .marks .now)) (c .before .before .before .args .block)
 own-is c = c .own-in-zone .ensures
 
-pumped-told : (c : tie.After-own-in-zone) → Bounds (c .own-in-zone .result .pumped)
-pumped-told c = b-eq (ap (λ o. o .pumped) (own-is c)) (own-in-pumped (caseIn (c .before .before .before)) (c .before .before .before .pre .0 .formed) (c .before .before .before .args .fluid) (markedOf (c .before .before .before .args .marks .now)) (c .before .before .before .args .block) (c .before .before .before .pre .1 .0))
+pumped-in : (c : tie.After-own-in-zone) → Abs mostPumpage (ownIn (c .before .before .before .args .slots .now) (booksOf (caseIn (c .before .before .before)) (c .before .before .before .args .fluid)) (markedOf (c .before .before .before .args .marks .now)) (c .before .before .before .args .block) .pumped)
+pumped-in c = own-in-pumped (caseIn (c .before .before .before)) (c .before .before .before .pre .0 .formed) (c .before .before .before .args .fluid) (markedOf (c .before .before .before .args .marks .now)) (c .before .before .before .args .block) (c .before .before .before .pre .1 .0)
 
 sub-t15 : tie.Need-sub-t15
-unfolding pumped-told
-sub-t15 c = fits (search (ranges, pumped-told (c .before .before .before .before)) depth 20) tt
+sub-t15 c = fits (search (ranges, b-eq (ap (λ o. o .pumped) (own-is (c .before .before .before .before))) (pumped-in (c .before .before .before .before))) depth 20) tt
 
-turned : (c : tie.After-own-in-zone) → toZ w64 (ofZ w64 (pos 0 -ℤ toZ w64 (ofZ w64 (c .own-in-zone .result .pumped)))) ≡ negℤ (ownIn (c .before .before .before .args .slots .now) (booksOf (caseIn (c .before .before .before)) (c .before .before .before .args .fluid)) (markedOf (c .before .before .before .args .marks .now)) (c .before .before .before .args .block) .pumped)
-unfolding pumped-told
-turned c = exact (search (ranges, pumped-told c) depth 20) ∙ +ℤ-idl _
-
-rest-is : (c : tie.After-remainder) → c .remainder .result ≡ remainderOf (inZone (c .before .before .before .before .args .slots .now) (markedOf (c .before .before .before .before .args .marks .now)) (c .before .before .before .before .args .block)) (booksOf (caseIn (c .before .before .before .before)) (c .before .before .before .before .args .fluid) .fixed (c .before .before .before .before .args .block)) (balanceIn (c .before .before .before .before .args .g) (booksOf (caseIn (c .before .before .before .before)) (c .before .before .before .before .args .fluid)) (c .before .before .before .before .args .block))
+rest-is : (c : tie.After-settle) → c .settle .result ≡ settledOf (inZone (c .before .before .before .before .args .slots .now) (markedOf (c .before .before .before .before .args .marks .now)) (c .before .before .before .before .args .block)) (booksOf (caseIn (c .before .before .before .before)) (c .before .before .before .before .args .fluid) .fixed (c .before .before .before .before .args .block)) (balanceIn (c .before .before .before .before .args .g) (booksOf (caseIn (c .before .before .before .before)) (c .before .before .before .before .args .fluid)) (c .before .before .before .before .args .block))
 rest-is c =
     let s = c .before .before .before .before in
-    c .remainder .ensures ∙ remainder-read (caseIn s) (s .args .balances .now) (s .pre .0 .balanced) (s .args .fluid) (s .pre .1 .1) (markedOf (s .args .marks .now)) (s .args .block) (s .pre .1 .0)
+    c .settle .ensures ∙ settled-read (caseIn s) (s .args .balances .now) (s .pre .0 .balanced) (s .args .fluid) (s .pre .1 .1) (markedOf (s .args .marks .now)) (s .args .block) (s .pre .1 .0)
 
 returns : tie.Need-returns
 unfolding termsOf
@@ -75,7 +67,7 @@ returns c =
     let inflow = answer (edged .0 .1) (ap (λ x. x .inflow) edge) in
     let outflow = answer (edged .1 .0 .1) (ap (λ x. x .outflow) edge) in
     let converted = answer (c .before .before .before .before .before .converted .ok) (c .before .before .before .before .before .converted .ensures) in
-    let wells = turned (c .before .before .before .before .before .before .before) in
+    let wells = negated (ap (λ o. o .pumped) own) (pumped-in (c .before .before .before .before .before .before .before)) tt tt in
     let recharge = answer (owned .0 .1) (ap (λ o. o .recharge) own) in
     let boundary = answer (owned .1 .0 .1) (ap (λ o. o .boundary) own) in
     let supply = answer (rested .0 .1) (ap (λ x. x .supply) rest) in
@@ -99,7 +91,7 @@ terms-spec =
     (λ c κs. c .pre .0 .formed .judged .counted)
     (λ c κs. placed c)
     (λ c κs. placed (c .before))
-    remainder-requires
+    settle-requires
     (λ c κs. placed (c .before .before .before))
     sub-t15
     returns)

@@ -2,13 +2,13 @@
 use mathlib.Core.Path.{_∙_, _≡_, ap, sym}
 use Prim.Native.Nat.{_-_, _≤_, ℕ}
 use native.Mathlib.Omega.{arith}
-use lib.IntN.{+ℤ-idl, _-ℤ_, negℤ, pos, ℤ}
+use lib.IntN.{pos, ℤ}
 use mir.Syntax.{w64}
-use mir.Val.{ofZ, toZ}
+use mir.Val.{toZ}
 use borrow.Author.Needs.{needs}
 use Rattle.whole.specs.Sum.{sum}
 use Rattle.whole.specs.Whole.{maxℤ}
-use Rattle.whole.proofs.RangeLaws.{Bounds, answer, b-eq, exact, fits, ranges}
+use Rattle.whole.proofs.RangeLaws.{Bounds, answer, b-eq, exact, fits, negated, ranges}
 use Rattle.whole.proofs.SumLaws.{sum-more, sum-start}
 use Rattle.slices.specs.Slices.{Case, caseOf}
 use Rattle.books.specs.Bookkeeping.{booksOf}
@@ -51,14 +51,10 @@ in-told c =
     b-eq (c .greatest .ensures ∙ ap (maxℤ (pos 0)) (answer (c .before .edge .ok) (c .before .edge .ensures)))
     (inflow-in (caseIn s) (s .pre .0) (s .args .fluid) (markedOf (s .args .marks .now)) (s .args .block) (s .pre .1 .1 .1 .0) (c .before .before .before .loop .axis) (omega arith))
 
-turned : (c : tie.After-edge Inv-loop μ-loop) → toZ w64 (ofZ w64 (pos 0 -ℤ toZ w64 (ofZ w64 (c .edge .result)))) ≡ negℤ (gain (c .before .before .before) (c .before .before .loop .axis))
-unfolding gain-told
-turned c = exact (search (ranges, gain-told c) depth 20) ∙ +ℤ-idl _
-
 out-told : (c : tie.After-greatest2 Inv-loop μ-loop) → Bounds (c .greatest2 .result)
 out-told c =
     let s = c .before .before .before .before .before in
-    b-eq (c .greatest2 .ensures ∙ ap (maxℤ (pos 0)) (turned (c .before .before)))
+    b-eq (c .greatest2 .ensures ∙ ap (maxℤ (pos 0)) (negated (c .before .before .edge .ensures) (edge-in (caseIn s) (s .pre .0) (s .args .fluid) (markedOf (s .args .marks .now)) (s .args .block) (s .pre .1 .1 .1 .0) (c .before .before .before .before .loop .axis) (omega arith)) tt tt))
     (outflow-in (caseIn s) (s .pre .0) (s .args .fluid) (markedOf (s .args .marks .now)) (s .args .block) (s .pre .1 .1 .1 .0) (c .before .before .before .before .loop .axis) (omega arith))
 
 inflow-told : (c : tie.In-loop Inv-loop μ-loop) → Bounds (toZ w64 (c .before .loop .inflow))

@@ -1,4 +1,4 @@
--- `layer_mark` meets its contract. Assumes nothing.
+-- `mark_in_layer` meets its contract. Assumes nothing.
 use mathlib.Core.Path.{_≡_, ap}
 use Prim.Native.Nat.{_+_}
 use native.Mathlib.Omega.{arith}
@@ -6,8 +6,8 @@ use borrow.Author.Tests.{eq-eqb, ne-eqb}
 use Rattle.grid.specs.Place.{placeOf}
 use Rattle.grid.proofs.PlaceLaws.{place-inside}
 use Rattle.budget.specs.Answers.{layerZone}
-use Rattle.budget.proofs.layer_mark.Statement.{statement}
-use Rattle.budget.proofs.layer_mark.Tie as tie
+use Rattle.budget.proofs.mark_in_layer.Statement.{statement}
+use Rattle.budget.proofs.mark_in_layer.Tie as tie
 
 layer-told : (c : tie.After-place-of) → c .place-of .result .layer ≡ placeOf (c .before .args .g) (c .before .args .block) .layer
 layer-told c = ap (λ p. p .layer) (c .place-of .ensures)
@@ -29,5 +29,5 @@ returns-2 c =
     let s = c .before .before .before .args in
     rw (ne-eqb (placeOf (s .g) (s .block) .layer + 1) (s .layer) (λ e. absurd (omega (arith, e, layer-told (c .before .before), c .if1 .left))))
 
-pub layer-mark-spec : {M : Type 1} → statement M
-layer-mark-spec = tie.close (tie.spec (λ c κs. c .pre .0) add-if1 returns returns-2)
+pub mark-in-layer-spec : {M : Type 1} → statement M
+mark-in-layer-spec = tie.close (tie.spec (λ c κs. c .pre .0) add-if1 returns returns-2)
