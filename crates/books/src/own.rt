@@ -4,16 +4,23 @@ ghost use mathlib.Core.Bool.{true};
 ghost use Prim.Native.Nat.{_<_};
 ghost use lib.IntN.{pos};
 ghost use Rattle.whole.specs.Whole.{In};
+ghost use Rattle.grid.specs.Judging.{Termed};
 ghost use Rattle.grid.specs.Place.{blocksOf, placeOf};
 ghost use Rattle.slots.specs.Units.{mostKind};
 ghost use Rattle.slots.specs.Slots.{Ends};
 ghost use Rattle.slices.specs.Slices.{caseOf};
+ghost use Rattle.block.specs.Units.{mostArea};
+ghost use Rattle.block.specs.Fluids.{Thick, inFluid, oldHeads};
+ghost use Rattle.block.specs.Geometry.{Levelled, levelsOf, levelsOn, thicknessesOf};
+ghost use Rattle.block.specs.Storage.{storageOf};
+ghost use Rattle.block.specs.Wells.{lengthsOf, sharesOf};
 ghost use Rattle.wellformed.specs.Links.{activeOf};
 ghost use Rattle.wellformed.specs.Limits.{WellFormed};
-ghost use Rattle.books.specs.Blocks.{Slotted, Watered};
-ghost use Rattle.books.specs.Terms.{pumpedAt, storageAt, ownOf, isKind, fixingOf, fixedOf};
+ghost use Rattle.books.specs.Blocks.{Watered};
+ghost use Rattle.books.specs.Terms.{ownOf, isKind, fixingOf, fixedOf};
 use super::rows::pair;
 use super::waters::lengths_on;
+use block::Fluids;
 use block::geometry::levels_of;
 use block::geometry::thicknesses;
 use block::in_fluid;
@@ -40,46 +47,31 @@ pub struct Own {
     pub storage: i64,
 }
 
-// What a block's well takes of a fluid, litres a day. Inner: the slots are in range, the row holds their thicknesses, and the block is inside
-// and active.
-fn pumped(g: Grid, slots: &[i64], waters: &[i64], block: usize, fluid: usize) -> i64
-    requires { ⌜ Slotted g (now slots) ⌝ }
-    requires { ⌜ Watered g (now slots) (now waters) ⌝ }
-    requires { ⌜ block < blocksOf g ⌝ }
-    requires { ⌜ activeOf (now slots) block ≡ true ⌝ }
-    ensures { λ r. ⌜ r ≡ pumpedAt g (now (slots .entry)) fluid block ⌝ }
+// What a block's well takes of a fluid, litres a day, by the thickness of each fluid, ticks. Inner: slots and thicknesses are in range.
+fn pumped(block: Block, waters: Fluids, fluid: usize) -> i64
+    requires { ⌜ Ends block ⌝ }
+    requires { ⌜ Thick waters ⌝ }
+    requires { ⌜ Levelled (levelsOn (block .base) waters) ⌝ }
+    ensures { λ r. ⌜ r ≡ inFluid (sharesOf block (lengthsOf block (levelsOn (block .base) waters))) fluid ⌝ }
 {
-    let own = load(slots, block);
-    in_fluid(shares(own, lengths_on(own, pair(waters, block))), fluid)
+    in_fluid(shares(block, lengths_on(block, waters)), fluid)
 }
 
-// What of a fluid goes into a block's storage, litres a day. Inner: the case is well formed, the row holds its thicknesses, and the block is
-// inside and active, at its place.
-fn stored(
-    g: Grid,
-    columns: &[i64],
-    rows: &[i64],
-    slots: &[i64],
-    waters: &[i64],
-    block: usize,
-    place: Place,
-    fluid: usize,
-) -> i64
-    requires { ⌜ WellFormed (caseOf g (now columns) (now rows) (now slots)) ⌝ }
-    requires { ⌜ Watered g (now slots) (now waters) ⌝ }
-    requires { ⌜ block < blocksOf g ⌝ }
-    requires { ⌜ place ≡ placeOf g block ⌝ }
-    requires { ⌜ activeOf (now slots) block ≡ true ⌝ }
-    ensures { λ r. ⌜ r ≡ storageAt (caseOf g (now (columns .entry)) (now (rows .entry)) (now (slots .entry))) fluid block ⌝ }
+// What of a fluid goes into a block's storage, litres a day, by its area, m², and the thickness of each fluid, ticks. Inner: terms, slots, area and
+// thicknesses are in range.
+fn stored(g: Grid, block: Block, top: bool, over: i64, waters: Fluids, fluid: usize) -> i64
+    requires { ⌜ Termed g ⌝ }
+    requires { ⌜ Ends block ⌝ }
+    requires { ⌜ In (pos 0) (pos mostArea) over ⌝ }
+    requires { ⌜ Thick waters ⌝ }
+    ensures { λ r. ⌜ r ≡ storageOf g block over (inFluid waters fluid) (inFluid (thicknessesOf (levelsOf g block top (oldHeads block))) fluid) ⌝ }
 {
-    let own = load(slots, block);
-    let top = !has_next(g, place, ABOVE);
-    let old = thicknesses(levels_of(g, own, top, old_heads(own)));
+    let old = thicknesses(levels_of(g, block, top, old_heads(block)));
     storage(
         g,
-        own,
-        area(columns, rows, place),
-        in_fluid(pair(waters, block), fluid),
+        block,
+        over,
+        in_fluid(waters, fluid),
         in_fluid(old, fluid),
     )
 }
@@ -110,8 +102,8 @@ pub fn own_terms(
     Own {
         recharge: recharge(g, own, top, over, fluid),
         boundary: boundary(g, own, top, over, thickness, fluid),
-        pumped: pumped(g, slots, waters, block, fluid),
-        storage: stored(g, columns, rows, slots, waters, block, place, fluid),
+        pumped: pumped(own, thickness, fluid),
+        storage: stored(g, own, top, over, thickness, fluid),
     }
 }
 

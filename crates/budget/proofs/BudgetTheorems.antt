@@ -1,15 +1,20 @@
 -- What the tables that a client is answered say (demand 3; document 01, "Balance, verdict, table"). Assumes nothing.
-use mathlib.Core.Bool.{Bool, not}
+use mathlib.Core.Bool.{Bool, false, not, true}
 use mathlib.Core.List.{List}
 use mathlib.Core.Logic.{_↔_}
-use mathlib.Core.Path.{_∙_, _≡_, sym}
-use Prim.Native.Nat.{_*_, _<_, _≤_, ℕ}
+use mathlib.Core.Path.{_∙_, _≡_, ap, refl, sym}
+use Prim.Native.Nat.{_*_, _<_, _≤_, suc, zero, ℕ}
 use native.Mathlib.Omega.{arith}
 use lib.Dec.{T, leb→le, le→leb}
 use lib.IntN.{_*ℤ_, _+ℤ_, natAbs, negsuc, pos, ℤ}
-use lib.Signed.{_≤ℤ_}
+use lib.ListN.{getD}
+use lib.Signed.{_≤ℤ_, ltZ}
+use Rattle.whole.specs.Ranges.{between}
 use Rattle.whole.specs.Sum.{count}
-use Rattle.whole.proofs.SearchLaws.{both, first-none, joint, none-first, true-is}
+use Rattle.whole.specs.Whole.{In}
+use Rattle.whole.proofs.SearchLaws.{both, first-none, holds, joint, none-first, true-is}
+use Rattle.whole.proofs.WithinLaws.{within-at}
+use Rattle.grid.specs.declared.Grid.{Grid}
 use Rattle.grid.specs.Place.{Counted, blocksOf}
 use Rattle.slots.specs.Slots.{blockOf}
 use Rattle.slices.specs.Slices.{Case}
@@ -64,6 +69,17 @@ layer-answered-exactly c layer = case-answered c
 pub whole-answered-exactly : (c : Case) → (wholeAnswer c .refusal .number ≡ 0) ↔ ((checkedOf c .number ≡ 0) × Wet (c .grid) (c .slots))
 unfolding wholeAnswer
 whole-answered-exactly c = case-answered c
+
+-- Of a zone that is answered, a block is marked exactly where its mark is 1.
+pub marked-is-one : (g : Grid) (marks : List ℤ) → T (marksHold g marks) → (i : ℕ) → i < blocksOf g → (markedOf marks i ≡ true) ↔ (getD marks i (pos 0) ≡ pos 1)
+unfolding markedOf
+marked-is-one g marks t i l = go (getD marks i (pos 0)) (within-at (between (pos 0) (pos 1)) marks (blocksOf g) t i l)
+  where
+    go : (mark : ℤ) → In (pos 0) (pos 1) mark → (ltZ (pos 0) mark ≡ true) ↔ (mark ≡ pos 1)
+    go (pos zero) h = (λ e. absurd (holds {b = false} e), λ e. let same : _≡_ {A = ℕ} 0 1 = ap natAbs e in absurd (omega (arith, same)))
+    go (pos (suc zero)) h = (λ e. refl, λ e. refl)
+    go (pos (suc (suc n))) h = absurd (omega (arith, leb→le (suc (suc n)) 1 (h .high .le)))
+    go (negsuc n) h = absurd (h .low .le)
 
 -- ---- what is answered
 

@@ -36,6 +36,7 @@ marksHold g marks = allWithin (between (pos 0) (pos 1)) marks (blocksOf g)
 unfoldable pub dryOf : Grid → List ℤ → ℕ
 dryOf g slots = firstOf (blocksOf g) (dryAt g slots)
 
+-- judged last
 abbrev pub wellChecks : Case → List Refusal
 wellChecks c = blaming 13 (dryOf (c .grid) (c .slots)) ∷ []
 
@@ -55,7 +56,7 @@ caseRefusal c = firstRefusal (checksOf c ++ wellChecks c)
 
 -- ---- zones without marks
 
--- one layer: "Layer 1 is the deepest."
+-- one layer: "Layer 1 is the deepest."; "layers from 1"
 unfoldable pub layerZone : Grid → ℕ → ℕ → Bool
 layerZone g layer i = eqb (placeOf g i .layer + 1) layer
 
@@ -77,7 +78,7 @@ marksOf (suc n) z row = set (marksOf n z row) n (markOf z n)
 unfoldable pub eighteenOf : Case → (ℕ → Bool) → List ℤ
 eighteenOf c z = rowOf (linesOf c z fresh) ++ rowOf (linesOf c z salt)
 
--- a refusal beside lines that are all 0
+-- what stands beside a refusal, and a refusal with that
 abbrev pub noLines : List ℤ
 noLines = replicate 18 (pos 0)
 

@@ -1,6 +1,6 @@
 // The water account of a zone (document 01, "Balance, verdict, table"): its table of two rows of nine lines, litres a day, and what it is
 // refused with.
-pub mod table;
+mod table;
 
 ghost use mathlib.Core.Path.{_≡_};
 ghost use Prim.Native.Nat.{_≤_, _<_};

@@ -12,8 +12,9 @@ use Rattle.books.specs.Bookkeeping.{Books, broughtOf}
 use Rattle.zone.specs.declared.links.Crossing.{Crossing}
 use Rattle.zone.specs.Zones.{differ}
 
--- ---- edge lines: "Edge lines count only lateral faces and leakage pairs with one side marked"
+-- ---- edge lines
 
+-- "Edge lines count only lateral faces and leakage pairs with one side marked"
 unfoldable pub atEdge : Grid → (ℕ → Bool) → ℕ → ℕ → Bool
 atEdge g z d i = differ (z i) (z (i + strideOf g d))
 

@@ -12,13 +12,17 @@ use Rattle.grid.specs.Place.{placeOf, topOf}
 use Rattle.grid.proofs.PlaceLaws.{top-last}
 use Rattle.slots.specs.Slots.{Ends, blockOf}
 use Rattle.slices.specs.Slices.{caseOf}
+use Rattle.block.specs.Fluids.{inFluid, oldHeads}
+use Rattle.block.specs.Geometry.{levelsOf, levelsOn, thicknessesOf}
+use Rattle.block.specs.Storage.{storageOf}
 use Rattle.block.specs.Units.{mostArea}
+use Rattle.block.specs.Wells.{lengthsOf, sharesOf}
 use Rattle.flow.specs.Boundary.{boundaryOf, rechargeOf}
 use Rattle.wellformed.specs.Widths.{areaAt}
 use Rattle.wellformed.proofs.WidthsLaws.{placed}
-use Rattle.books.specs.Blocks.{Slotted, watersOf}
-use Rattle.books.specs.Terms.{ownOf}
-use Rattle.books.proofs.BlocksLaws.{active-ends, slotted, waters-thick}
+use Rattle.books.specs.Blocks.{Slotted, levelsAt, watersOf}
+use Rattle.books.specs.Terms.{ownOf, pumpedAt, storageAt}
+use Rattle.books.proofs.BlocksLaws.{active-ends, lengths-ready, levels-on-waters, slotted, waters-on, waters-thick}
 use Rattle.books.proofs.TermsLaws.{over-in}
 use Rattle.books.proofs.own.own_terms.Statement.{statement}
 use Rattle.books.proofs.own.own_terms.Tie as tie
@@ -72,7 +76,32 @@ boundary-requires c κs =
 pumped-requires : tie.Need-pumped-requires
 pumped-requires c κs =
     let s = c .before .before .before .before .before .before in
-    (ready s, (s .pre .1 .0, (s .pre .1 .1 .0, s .pre .1 .1 .1 .1)))
+    rw (c .before .before .before .before .before .load .ensures, waters-told (c .before .before)) (lengths-ready (s .args .g) (s .args .slots .now) (ready s) (s .args .block) (s .pre .1 .1 .0) (s .pre .1 .1 .1 .1))
+
+stored-requires : tie.Need-stored-requires
+stored-requires c κs =
+    let s = c .before .before .before .before .before .before .before in
+    (s .pre .0 .judged .termed, (rw (c .before .before .before .before .before .before .load .ensures) (ends s), (area-within (c .before .before .before .before), rw (waters-told (c .before .before .before)) (waters-thick (s .args .g) (s .args .slots .now) (ready s) (s .args .block) (s .pre .1 .1 .0)))))
+
+-- what the well takes and what is stored, by the block and its waters as they were loaded and read
+pumped-told : (c : tie.After-pumped) → c .pumped .result ≡ pumpedAt (c .before .before .before .before .before .before .before .args .g) (c .before .before .before .before .before .before .before .args .slots .now) (c .before .before .before .before .before .before .before .args .fluid) (c .before .before .before .before .before .before .before .args .block)
+unfolding pumpedAt
+pumped-told c =
+    let s = c .before .before .before .before .before .before .before in
+    let own = blockOf (s .args .slots .now) (s .args .block) in
+    let loaded = c .before .before .before .before .before .before .load .ensures in
+    c .pumped .ensures
+    ∙ (λ k. inFluid (sharesOf (loaded k) (lengthsOf (loaded k) (levelsOn (loaded k .base) (waters-told (c .before .before .before) k)))) (s .args .fluid))
+    ∙ ap (λ l. inFluid (sharesOf own (lengthsOf own l)) (s .args .fluid)) (levels-on-waters (s .args .g) (s .args .slots .now) (ready s) (s .args .block) (s .pre .1 .1 .0) (s .pre .1 .1 .1 .1))
+
+stored-told : (c : tie.After-stored) → c .stored .result ≡ storageAt (caseOf (c .before .before .before .before .before .before .before .before .args .g) (c .before .before .before .before .before .before .before .before .args .columns .now) (c .before .before .before .before .before .before .before .before .args .rows .now) (c .before .before .before .before .before .before .before .before .args .slots .now)) (c .before .before .before .before .before .before .before .before .args .fluid) (c .before .before .before .before .before .before .before .before .args .block)
+unfolding storageAt levelsAt
+stored-told c =
+    let s = c .before .before .before .before .before .before .before .before in
+    let loaded = c .before .before .before .before .before .before .before .load .ensures in
+    let waters = waters-told (c .before .before .before .before) ∙ waters-on (s .args .g) (s .args .slots .now) (s .args .block) (s .pre .1 .1 .1 .1) in
+    c .stored .ensures
+    ∙ (λ k. storageOf (s .args .g) (loaded k) (area-told (c .before .before .before .before .before) k) (inFluid (waters k) (s .args .fluid)) (inFluid (thicknessesOf (levelsOf (s .args .g) (loaded k) (top-told (c .before .before .before .before .before .before) k) (oldHeads (loaded k)))) (s .args .fluid)))
 
 returns : tie.Need-returns
 unfolding ownOf
@@ -81,8 +110,8 @@ returns c =
     λ i. record {
       recharge = answer (c .before .before .before .recharge .ok) (c .before .before .before .recharge .ensures ∙ (λ j. rechargeOf (s .g) (c .before .before .before .before .before .before .before .load .ensures j) (top-told (c .before .before .before .before .before .before) j) (area-told (c .before .before .before .before .before) j) (s .fluid))) i;
       boundary = answer (c .before .before .boundary .ok) (c .before .before .boundary .ensures ∙ (λ j. boundaryOf (s .g) (c .before .before .before .before .before .before .before .load .ensures j) (top-told (c .before .before .before .before .before .before) j) (area-told (c .before .before .before .before .before) j) (waters-told (c .before .before .before .before) j) (s .fluid))) i;
-      pumped = answer (c .before .pumped .ok) (c .before .pumped .ensures) i;
-      storage = answer (c .stored .ok) (c .stored .ensures) i;
+      pumped = answer (c .before .pumped .ok) (pumped-told (c .before)) i;
+      storage = answer (c .stored .ok) (stored-told c) i;
     }
 
 pub own-terms-spec : {M : Type 1} → statement M
@@ -96,5 +125,5 @@ own-terms-spec =
     recharge-requires
     boundary-requires
     pumped-requires
-    (λ c κs. c .before .before .before .before .before .before .before .pre)
+    stored-requires
     returns)
