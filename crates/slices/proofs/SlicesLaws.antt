@@ -80,6 +80,12 @@ none-apart xs ys e = or-none (firstRefusal xs) (firstRefusal ys) (rw (first-appe
 pub none-together : (xs ys : List Refusal) → firstRefusal xs .number ≡ 0 → firstRefusal ys .number ≡ 0 → firstRefusal (xs ++ ys) .number ≡ 0
 none-together xs ys h k = ap (λ r. r .number) (first-append xs ys ∙ or-next (firstRefusal xs) (firstRefusal ys) h) ∙ k
 
+-- refusals that come to number 0 come to none
+pub none-refused : (xs : List Refusal) → firstRefusal xs .number ≡ 0 → firstRefusal xs ≡ none
+unfolding firstRefusal
+none-refused [] e = refl
+none-refused (x ∷ xs) e = let h = or-none x (firstRefusal xs) e in or-next x (firstRefusal xs) (h .0) ∙ none-refused xs (h .1)
+
 -- one test alone
 pub unless-alone : (n : ℕ) (b : Bool) → (n ≡ 0 → ⊥) → unless n b ≡ firstRefusal (unless n b ∷ [])
 unfolding firstRefusal

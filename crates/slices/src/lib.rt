@@ -34,7 +34,7 @@ pub struct Refusal {
 // Metres.
 const MOST_WIDTH: i64 = 4_096;
 
-const WIDTHS: Range = Range {
+pub const WIDTHS: Range = Range {
     lower: 1,
     upper: MOST_WIDTH,
 };

@@ -1,8 +1,8 @@
 -- Laws of a block's slots: the table's rule, and what slots that stand tell of each slot. Assumes nothing.
-use mathlib.Core.Path.{_≡_, sym, ap, _∙_}
+use mathlib.Core.Path.{_≡_, refl, sym, ap, ap₂, _∙_}
 use mathlib.Core.Bool.{Bool, true, false, not, cond, _&&_}
-use mathlib.Core.List.{List}
-use Prim.Native.Nat.{ℕ, _+_, _*_, _-_, _<_}
+use mathlib.Core.List.{List, [], _∷_}
+use Prim.Native.Nat.{ℕ, zero, suc, _+_, _*_, _-_, _<_}
 use native.Mathlib.Omega.{arith}
 use lib.Dec.{T}
 use lib.IntN.{ℤ, pos, negℤ}
@@ -12,7 +12,7 @@ use lib.Signed.{_≤ℤ_, leZ, leZ-yes, ltZ-yes}
 use Rattle.whole.specs.declared.ranges.Range.{Range}
 use Rattle.whole.specs.Whole.{In}
 use Rattle.whole.specs.Search.{every}
-use Rattle.whole.specs.Ranges.{between, inRange}
+use Rattle.whole.specs.Ranges.{between, inRange, allWithin}
 use Rattle.whole.proofs.OrderLaws.{≤ℤ-antisymm, one-least}
 use Rattle.whole.proofs.SearchLaws.{both, every-all}
 use Rattle.whole.proofs.WithinLaws.{range-in, within-at}
@@ -51,6 +51,32 @@ first-slot slots i = ap (λ (k : ℕ). getD slots k (pos 0)) (same (slotsEach * 
   where
     same : (n : ℕ) → n ≡ n + 0
     same n = omega arith
+
+-- ---- slots alike in their first numbers
+
+abbrev pub SameTo : ℕ → List ℤ → List ℤ → Type 0
+SameTo n s t = (k : ℕ) → k < n → getD s k (pos 0) ≡ getD t k (pos 0)
+
+-- the first n of some numbers
+listed : ℕ → (ℕ → ℤ) → List ℤ
+listed zero f = []
+listed (suc n) f = f 0 ∷ listed n (λ k. f (suc k))
+
+-- numbers that are alike give the same list
+listed-same : (n : ℕ) (f g : ℕ → ℤ) → ((k : ℕ) → k < n → f k ≡ g k) → listed n f ≡ listed n g
+unfolding listed
+listed-same zero f g h = refl
+listed-same (suc n) f g h = ap₂ {C = List ℤ} (λ z r. z ∷ r) (h 0 (omega arith)) (listed-same n (λ k. f (suc k)) (λ k. g (suc k)) (λ k l. h (suc k) (omega arith)))
+
+-- a block is told by the first sixteen numbers
+pub slots-same : (s t : List ℤ) → SameTo slotsEach s t → slotsAt s ≡ slotsAt t
+unfolding slotsAt listed
+slots-same s t h = ap slotsAt (listed-same slotsEach (λ k. getD s k (pos 0)) (λ k. getD t k (pos 0)) h)
+
+-- and so is whether it stands
+pub slots-hold-same : (s t : List ℤ) (top : Bool) → SameTo slotsEach s t → slotsHold s top ≡ slotsHold t top
+unfolding slotsHold slotsAt endsHold allZero allWithin every listed
+slots-hold-same s t top h = ap (λ (l : List ℤ). slotsHold l top) (listed-same slotsEach (λ k. getD s k (pos 0)) (λ k. getD t k (pos 0)) h)
 
 -- ---- what slots that stand tell
 

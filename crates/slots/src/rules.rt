@@ -28,7 +28,7 @@ use whole::ranges::in_range;
 const ZERO: Range = Range { lower: 0, upper: 0 };
 
 // The kinds that exchange water: 1 river, 2 sea.
-const OPEN_KINDS: Range = Range { lower: 1, upper: 2 };
+pub const OPEN_KINDS: Range = Range { lower: 1, upper: 2 };
 
 // "An inactive block has all 16 zero." Inner: there are so many.
 pub fn all_zero(part: &[i64]) -> bool

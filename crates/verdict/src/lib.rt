@@ -50,7 +50,7 @@ pub struct Answer {
 }
 
 // What stands beside a refusal.
-const NO_VERDICT: Verdict = Verdict {
+pub const NO_VERDICT: Verdict = Verdict {
     code: 0,
     block: 0,
     count: 0,

@@ -2,4 +2,5 @@
 pub mod LinksLaws
 pub mod WidthsLaws
 pub mod LimitsLaws
+pub mod RoomLaws
 pub mod WorkedTheorems

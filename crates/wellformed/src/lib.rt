@@ -13,7 +13,7 @@ use slices::Refusal;
 use slices::judge;
 
 // 9, then 10. Inner: 3, 7, 4, 5 and 6 do not refuse the case.
-fn judge_limits(g: Grid, columns: &[i64], rows: &[i64], slots: &[i64]) -> Refusal
+pub fn judge_limits(g: Grid, columns: &[i64], rows: &[i64], slots: &[i64]) -> Refusal
     requires { ⌜ Judged (caseOf g (now columns) (now rows) (now slots)) ⌝ }
     ensures { λ r. ⌜ r ≡ firstRefusal (limitsOf (caseOf g (now (columns .entry)) (now (rows .entry)) (now (slots .entry)))) ⌝ }
 {

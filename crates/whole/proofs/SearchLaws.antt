@@ -75,6 +75,12 @@ module _ (test : ℕ → Bool) where
       let h = both (every n test) (test n) t in
       ⊎-elim (λ p. rw p (h .1)) (λ q. every-all n (h .0) i q) (eq-or-lt-of-le (le-of-suc-le-suc l))
 
+  -- and so they do, where each passes
+  pub every-passes : (n : ℕ) → ((i : ℕ) → i < n → T (test i)) → every n test ≡ true
+  unfolding every
+  every-passes zero h = refl
+  every-passes (suc n) h = ap₂ _&&_ (every-passes n (λ i l. h i (omega arith))) (true-is (h n (omega arith)))
+
 -- ---- the first of them that passes
 module _ (test : ℕ → Bool) where
   pub first-start : firstOf 0 test ≡ 0
@@ -152,6 +158,12 @@ module _ (test : ℕ → Bool) where
       last : (b : Bool) → (count n test ≡ 0 → firstOf n test ≡ 0) → count n test + cond b 1 0 ≡ 0 → cond (eqb (firstOf n test) 0) (cond b (suc n) 0) (firstOf n test) ≡ 0
       last true h e = absurd (omega arith)
       last false h e = rw (h (omega arith))
+
+-- a test of all numbers below n asks nothing of the others
+pub every-same : (n : ℕ) (f g : ℕ → Bool) → ((i : ℕ) → i < n → f i ≡ g i) → every n f ≡ every n g
+unfolding every
+every-same zero f g h = refl
+every-same (suc n) f g h = ap₂ _&&_ (every-same n f g (λ i l. h i (omega arith))) (h n (omega arith))
 
 pub first-same : (n : ℕ) (f g : ℕ → Bool) → ((i : ℕ) → i < n → f i ≡ g i) → firstOf n f ≡ firstOf n g
 unfolding firstOf

@@ -1,0 +1,5 @@
+pub mod CasefileTheorems
+pub mod FilledLaws
+pub mod ReadingLaws
+pub mod RunsLaws
+pub mod WorkedTheorems

@@ -1,0 +1,427 @@
+-- Laws of the whole reading: a case that was read is judged, what follows a refusal and a run, and what every answer is. Assumes nothing.
+use mathlib.Core.Bool.{Bool, _&&_, false, not, true}
+use mathlib.Core.List.{List, [], _++_, _∷_, append-nil}
+use mathlib.Core.Path.{_∙_, _≡_, ap, ap₂, refl, sym}
+use Prim.Native.Nat.{_*_, _<_, _≤_, suc, zero, ℕ}
+use native.Mathlib.Decide.{ℕ-discrete}
+use native.Mathlib.Nat.{le-of-eq}
+use native.Mathlib.Omega.{arith}
+use lib.Dec.{T, leb, le→leb}
+use lib.IntN.{natAbs, pos, ℤ}
+use lib.ListN.{drop, drop-of-length-le, getD, length, take}
+use lib.Seq.{take-at}
+use borrow.Author.Tests.{eq-eqb, le-leb, ne-eqb}
+use Rattle.whole.specs.Ranges.{allWithin, between, inRange}
+use Rattle.whole.specs.Whole.{In}
+use Rattle.whole.proofs.OrderLaws.{in-abs}
+use Rattle.whole.proofs.RangeLaws.{leaf, within}
+use Rattle.whole.proofs.SearchLaws.{every-passes, follows, joint, none-first, true-is}
+use Rattle.whole.proofs.WithinLaws.{range-in}
+use Rattle.grid.specs.declared.Grid.{Grid}
+use Rattle.grid.specs.Judging.{Termed, countsHold, termsHold}
+use Rattle.grid.specs.Place.{Counted, blocksOf, topOf}
+use Rattle.slots.specs.Rules.{slotsHold}
+use Rattle.slots.specs.Slots.{partOf}
+use Rattle.slots.specs.Units.{slotsEach}
+use Rattle.slots.proofs.SlotsLaws.{slots-active, slots-inactive}
+use Rattle.slices.specs.declared.Refusal.{Refusal}
+use Rattle.slices.specs.Slices.{Case, Judged, Roomy, blaming, caseOf, contentsOf, faultOf, firstRefusal, mostWidth, none, orElse, roomHolds, shapeOf, unless, widthsHold}
+use Rattle.slices.proofs.SlicesLaws.{none-refused, none-together, or-first, or-next}
+use Rattle.wellformed.specs.Limits.{checkedOf, checksOf, firstAtFault, limitsOf}
+use Rattle.casefile.specs.declared.fields.Part.{Part}
+use Rattle.casefile.specs.declared.fields.Part.the-variants.{Counts, Terms, Widths}
+use Rattle.casefile.specs.declared.runs.Run.{Run}
+use Rattle.casefile.specs.declared.runs.Run.the-variants.{Done, Refused}
+use Rattle.casefile.specs.Fields.{Within, counts, endsOf, headRange, isSent, terms}
+use Rattle.casefile.specs.Reading.{Read, accepting, after, bodyOf, caseFrom, columnsFrom, countedOf, judging, readingOf, refusing, rowsFrom, settledOf, slotsFrom, termedOf, termsOf}
+use Rattle.casefile.specs.Runs.{endingOf, fillOf, over}
+use Rattle.casefile.proofs.FilledLaws.{Early, Numbered, Telling, blocks-before, blocks-hold, blocks-length, blocks-telling, done-before, done-numbered, done-telling, early-numbered, fill-of-length, fill-of-numbered, fill-of-telling, fill-within}
+use Rattle.casefile.specs.declared.fields.Got.the-variants as got
+use Rattle.numbers.specs.declared.Number.the-variants as number
+
+-- ---- a case that was read
+
+-- every count is sent
+pub counts-sent : (d : List ℤ) → isSent Counts d ≡ true
+unfolding isSent
+counts-sent d = refl
+
+-- every term is sent
+pub terms-sent : (d : List ℤ) → isSent Terms d ≡ true
+unfolding isSent
+terms-sent d = refl
+
+-- every width is sent
+pub widths-sent : (d : List ℤ) → isSent Widths d ≡ true
+unfolding isSent
+widths-sent d = refl
+
+-- a number of a part, by its range
+pub number-in : (part : Part) (n : ℕ) (v : List ℤ) → Within part n v → (k : ℕ) → k < n → In (endsOf part k .lower) (endsOf part k .upper) (getD v k (pos 0))
+number-in part n v w k l = range-in (endsOf part k) (getD v k (pos 0)) (w k l)
+
+-- terms within their ends are what later parts require
+pub termed-within : (g : Grid) (v : List ℤ) → Within Terms terms v → Termed (termedOf g v)
+unfolding termedOf endsOf headRange
+termed-within g v w = record {
+  delta = term 0 (omega arith);
+  flag = in-abs (within (leaf (term 1 (omega arith))) tt tt);
+  step = term 2 (omega arith);
+  tolerance = term 3 (omega arith);
+}
+  where
+    term : (k : ℕ) → k < terms → In (endsOf Terms k .lower) (endsOf Terms k .upper) (getD v k (pos 0))
+    term = number-in Terms terms v w
+
+-- widths that a done run read are within their ends
+width-in : (from : Run) (file : List ℕ) (total next : ℕ) → fillOf from Widths file total .run ≡ Done next → (k : ℕ) → k < total → In (pos 1) (pos mostWidth) (getD (fillOf from Widths file total .values) k (pos 0))
+unfolding endsOf
+width-in from file total next e = number-in Widths total (fillOf from Widths file total .values) (fill-within Widths widths-sent file from total next e)
+
+-- a body that was read to its end has as many widths and slots as its record needs
+pub body-lengths : (g : Grid) (file : List ℕ) (at next : ℕ) → slotsFrom g file at .run ≡ Done next →
+    (length (columnsFrom g file at .values) ≡ g .columns) × ((length (rowsFrom g file at .values) ≡ g .rows) × (length (slotsFrom g file at .values) ≡ slotsEach * blocksOf g))
+body-lengths g file at next e =
+    let columns = columnsFrom g file at .run in
+    let rows = rowsFrom g file at .run in
+    let row = blocks-before rows g file (blocksOf g) next e in
+    let column = done-before columns Widths file (g .rows) (row .0) (row .1) in (
+      fill-of-length (Done at) Widths file (g .columns) (column .0) (column .1),
+      (fill-of-length columns Widths file (g .rows) (row .0) (row .1), blocks-length rows g file (blocksOf g) next e),
+    )
+
+-- so it has room for them
+pub body-roomy : (g : Grid) (file : List ℕ) (at next : ℕ) → slotsFrom g file at .run ≡ Done next → Roomy (caseFrom g file at)
+unfolding caseFrom
+body-roomy g file at next e =
+    let sizes = body-lengths g file at next e in
+    record { columns = le-of-eq (sym (sizes .0)); rows = le-of-eq (sym (sizes .1 .0)); slots = le-of-eq (sym (sizes .1 .1)) }
+
+-- a case that was read is refused by none of 3, 7, 4, 5 and 6, where the counts and terms of its record are in range
+pub case-judged : (g : Grid) (file : List ℕ) (at next : ℕ) → Counted g → Termed g → slotsFrom g file at .run ≡ Done next → Judged (caseFrom g file at)
+unfolding caseFrom
+case-judged g file at next counted termed e =
+    let columns = columnsFrom g file at .run in
+    let rows = rowsFrom g file at .run in
+    let row = blocks-before rows g file (blocksOf g) next e in
+    let column = done-before columns Widths file (g .rows) (row .0) (row .1) in
+    let stands = blocks-hold rows g file (blocksOf g) next e in
+    let slots = slotsFrom g file at .values in
+    record {
+      counted = counted;
+      roomy = body-roomy g file at next e;
+      termed = termed;
+      column = width-in (Done at) file (g .columns) (column .0) (column .1);
+      row = width-in columns file (g .rows) (row .0) (row .1);
+      active = λ i l. slots-active (partOf slots i) (topOf g i) (stands i l);
+      inactive = λ i l. slots-inactive (partOf slots i) (topOf g i) (stands i l);
+    }
+
+-- a run that fills a slice to its end leaves in it just what was read
+pub fill-of-whole : (from : Run) (part : Part) (file : List ℕ) (total next : ℕ) (l : List ℤ) → length l ≡ total → fillOf from part file total .run ≡ Done next → over (fillOf from part file total .values) l ≡ fillOf from part file total .values
+fill-of-whole from part file total next l h e =
+    let values = fillOf from part file total .values in
+    rw (drop-of-length-le l {i = length values} (omega (arith, h, fill-of-length from part file total next e))) (append-nil values)
+
+-- the terms change neither the counts nor the room
+pub termed-counted : (g : Grid) (v : List ℤ) → Counted g → Counted (termedOf g v)
+unfolding termedOf
+termed-counted g v h =
+    record {
+      columns-some = h .columns-some;
+      columns-most = h .columns-most;
+      rows-some = h .rows-some;
+      rows-most = h .rows-most;
+      layers-some = h .layers-some;
+      layers-most = h .layers-most;
+      blocks-most = h .blocks-most;
+    }
+
+pub termed-roomy : (g : Grid) (v columns rows slots : List ℤ) → Roomy (caseOf g columns rows slots) → Roomy (caseOf (termedOf g v) columns rows slots)
+unfolding termedOf
+termed-roomy g v columns rows slots h = record { columns = h .columns; rows = h .rows; slots = h .slots }
+
+-- a run over the whole file that nothing refuses is done
+pub ended-done : (run : Run) (file : List ℕ) → Numbered run → endingOf run file .number ≡ 0 → (next : ℕ) × (run ≡ Done next)
+unfolding endingOf
+ended-done (Refused r) file h e = absurd (h r refl e)
+ended-done (Done at) file h e = (at, refl)
+
+-- the run over a file's body tells what the refusals 1 to 6 do
+pub body-telling : (Tells : ℕ → Type 0) → Early Tells → (g : Grid) (file : List ℕ) (at : ℕ) → Telling Tells (slotsFrom g file at .run)
+body-telling Tells early g file at =
+    blocks-telling (rowsFrom g file at .run) g file Tells early
+    (fill-of-telling Tells early (columnsFrom g file at .run) Widths file (g .rows) (fill-of-telling Tells early (Done at) Widths file (g .columns) (done-telling Tells at)))
+    (blocksOf g)
+
+-- so it is done where nothing refuses it
+pub body-done : (g : Grid) (file : List ℕ) (at : ℕ) → endingOf (slotsFrom g file at .run) file .number ≡ 0 → (next : ℕ) × (slotsFrom g file at .run ≡ Done next)
+body-done g file at = ended-done (slotsFrom g file at .run) file (body-telling (λ n. n ≡ 0 → ⊥) early-numbered g file at)
+
+-- what such a run left over the front of three slices is the case that was read
+pub body-case : (g : Grid) (file : List ℕ) (at next : ℕ) (c r s : List ℤ) → slotsFrom g file at .run ≡ Done next →
+    caseOf g (take (g .columns) (over (columnsFrom g file at .values) c)) (take (g .rows) (over (rowsFrom g file at .values) r)) (take (slotsEach * blocksOf g) (over (slotsFrom g file at .values) s))
+    ≡ caseFrom g file at
+unfolding caseFrom
+body-case g file at next c r s e =
+    let columns = columnsFrom g file at .values in
+    let rows = rowsFrom g file at .values in
+    let slots = slotsFrom g file at .values in
+    let sizes = body-lengths g file at next e in
+    λ i. caseOf g
+    (take-at columns (drop (length columns) c) (g .columns) (sizes .0) i)
+    (take-at rows (drop (length rows) r) (g .rows) (sizes .1 .0) i)
+    (take-at slots (drop (length slots) s) (slotsEach * blocksOf g) (sizes .1 .1) i)
+
+-- ---- what follows a refusal, and a run
+
+-- a refusal stays
+pub judging-stays : (r s : Refusal) (more : Read) → r ≡ s → (r .number ≡ 0 → ⊥) → judging s more ≡ refusing r
+unfolding judging
+judging-stays r s more e h = rw (← e, ne-eqb (r .number) 0 h) refl
+
+-- and none lets go on
+pub judging-goes-on : (r s : Refusal) (more : Read) → r ≡ s → r .number ≡ 0 → judging s more ≡ more
+unfolding judging
+judging-goes-on r s more e h = rw (← e, eq-eqb (r .number) 0 h) refl
+
+-- a run that is refused ends the reading, and one that is done lets it go on
+pub after-refused : (run : Run) (r : Refusal) (more : ℕ → Read) → run ≡ Refused r → after run more ≡ refusing r
+unfolding after
+after-refused run r more e = rw e refl
+
+pub after-done : (run : Run) (at : ℕ) (more : ℕ → Read) → run ≡ Done at → after run more ≡ more at
+unfolding after
+after-done run at more e = rw e refl
+
+-- what follows the counts, by the run over the terms
+pub terms-refused : (g : Grid) (file : List ℕ) (at : ℕ) (run : Run) (r : Refusal) → run ≡ fillOf (Done at) Terms file terms .run → run ≡ Refused r → termsOf g file at ≡ refusing r
+unfolding termsOf
+terms-refused g file at run r e h = let f = fillOf (Done at) Terms file terms in after-refused (f .run) r (bodyOf (termedOf g (f .values)) file) (sym e ∙ h)
+
+pub terms-done : (g h : Grid) (file : List ℕ) (at next : ℕ) (run : Run) → run ≡ fillOf (Done at) Terms file terms .run → run ≡ Done next → h ≡ termedOf g (fillOf (Done at) Terms file terms .values) → termsOf g file at ≡ bodyOf h file next
+unfolding termsOf
+terms-done g h file at next run e d s = let f = fillOf (Done at) Terms file terms in after-done (f .run) next (bodyOf (termedOf g (f .values)) file) (sym e ∙ d) ∙ ap (λ k. bodyOf k file next) (sym s)
+
+-- the whole file, by the run over the counts
+module _ (file : List ℕ) (columns rows slots : List ℤ) (run : Run) (told : run ≡ fillOf (Done 0) Counts file counts .run) where
+  pub counts-refused : (r : Refusal) → run ≡ Refused r → readingOf file columns rows slots ≡ refusing r
+  unfolding readingOf
+  counts-refused r h =
+      let f = fillOf (Done 0) Counts file counts in
+      let g = countedOf (f .values) in
+      after-refused (f .run) r (λ at. judging (firstRefusal (shapeOf (caseOf g columns rows slots))) (termsOf g file at)) (sym told ∙ h)
+
+  pub counts-done : (g : Grid) (next : ℕ) → run ≡ Done next → g ≡ countedOf (fillOf (Done 0) Counts file counts .values) → readingOf file columns rows slots ≡ judging (firstRefusal (shapeOf (caseOf g columns rows slots))) (termsOf g file next)
+  unfolding readingOf
+  counts-done g next h s =
+      let f = fillOf (Done 0) Counts file counts in
+      let k = countedOf (f .values) in
+      after-done (f .run) next (λ at. judging (firstRefusal (shapeOf (caseOf k columns rows slots))) (termsOf k file at)) (sym told ∙ h)
+      ∙ ap (λ k. judging (firstRefusal (shapeOf (caseOf k columns rows slots))) (termsOf k file next)) (sym s)
+
+-- ---- a file that is not refused
+
+-- where nothing is refused, nothing was before, and what follows is the answer
+judging-none : (r : Refusal) (more : Read) → judging r more .answer .refusal .number ≡ 0 → (r .number ≡ 0) × (judging r more ≡ more)
+judging-none r more = go (ℕ-discrete (r .number) 0)
+  where
+    go : Dec (r .number ≡ 0) → judging r more .answer .refusal .number ≡ 0 → (r .number ≡ 0) × (judging r more ≡ more)
+    go (yes h) e = (h, judging-goes-on r r more refl h)
+    go (no h) e = absurd (h (rw (judging-stays r r more refl h) at e))
+
+-- and the run before it was done
+after-none : (run : Run) (more : ℕ → Read) → Numbered run → after run more .answer .refusal .number ≡ 0 → (at : ℕ) × (run ≡ Done at)
+unfolding after
+after-none (Refused r) more h e = absurd (h r refl e)
+after-none (Done at) more h e = (at, refl)
+
+-- a file's body that is not refused: it was read to its end, passes 9 and 10, and is the answer
+body-none : (g : Grid) (file : List ℕ) (at : ℕ) → bodyOf g file at .answer .refusal .number ≡ 0 →
+    (endingOf (slotsFrom g file at .run) file .number ≡ 0) × ((firstRefusal (limitsOf (caseFrom g file at)) .number ≡ 0) × (bodyOf g file at ≡ accepting (caseFrom g file at)))
+unfolding bodyOf settledOf
+body-none g file at e =
+    let c = caseFrom g file at in
+    let ended = judging-none (endingOf (slotsFrom g file at .run) file) (settledOf c) e in
+    let limits = judging-none (firstRefusal (limitsOf c)) (accepting c) (rw (ended .1) at e) in
+    (ended .0, (limits .0, ended .1 ∙ limits .1))
+
+-- terms within their ends pass 4
+terms-hold : (g : Grid) (v : List ℤ) → Within Terms terms v → T (termsHold (termedOf g v))
+unfolding termedOf endsOf headRange termsHold
+terms-hold g v w =
+    let flag = leb (natAbs (getD v 1 (pos 0))) 1 in
+    joint (term 0) (flag && (term 2 && term 3)) (w 0 (omega arith))
+    (joint flag (term 2 && term 3) (le→leb _ _ (termed-within g v w .flag)) (joint (term 2) (term 3) (w 2 (omega arith)) (w 3 (omega arith))))
+  where
+    term : ℕ → Bool
+    term k = inRange (endsOf Terms k) (getD v k (pos 0))
+
+-- the terms change nothing that 3 and 7 ask for
+termed-shape : (g : Grid) (v columns rows slots : List ℤ) → shapeOf (caseOf (termedOf g v) columns rows slots) ≡ shapeOf (caseOf g columns rows slots)
+unfolding shapeOf termedOf countsHold roomHolds
+termed-shape g v columns rows slots = refl
+
+-- what a file that is not refused tells: a record that passes 3 and 7 with the lent slices, and 4; a body that was read to its end and passes 9 and 10; and that
+-- these are the answer
+pub record Accepted (file : List ℕ) (columns rows slots : List ℤ) : Type 0 where
+  pub grid : Grid
+  pub from : ℕ
+  pub next : ℕ
+  pub shape : firstRefusal (shapeOf (caseOf grid columns rows slots)) .number ≡ 0
+  pub termed : T (termsHold grid)
+  pub done : slotsFrom grid file from .run ≡ Done next
+  pub limits : firstRefusal (limitsOf (caseFrom grid file from)) .number ≡ 0
+  pub is : readingOf file columns rows slots ≡ accepting (caseFrom grid file from)
+
+-- the law that it does
+pub accepted : (file : List ℕ) (columns rows slots : List ℤ) → readingOf file columns rows slots .answer .refusal .number ≡ 0 → Accepted file columns rows slots
+unfolding readingOf termsOf
+accepted file columns rows slots e =
+    let head = fillOf (Done 0) Counts file counts in
+    let g = countedOf (head .values) in
+    let shape = firstRefusal (shapeOf (caseOf g columns rows slots)) in
+    let more : ℕ → Read = λ at. judging shape (termsOf g file at) in
+    let counted = after-none (head .run) more (fill-of-numbered (Done 0) Counts file counts (done-numbered 0)) e in
+    let at = counted .0 in
+    let to-shape = after-done (head .run) at more (counted .1) in
+    let room = judging-none shape (termsOf g file at) (rw to-shape at e) in
+    let tail = fillOf (Done at) Terms file terms in
+    let whole = termedOf g (tail .values) in
+    let ran = after-none (tail .run) (bodyOf whole file) (fill-of-numbered (Done at) Terms file terms (done-numbered at)) (rw (to-shape ∙ room .1) at e) in
+    let to-body = after-done (tail .run) (ran .0) (bodyOf whole file) (ran .1) in
+    let body = body-none whole file (ran .0) (rw (to-shape ∙ room .1 ∙ to-body) at e) in
+    let done = body-done whole file (ran .0) (body .0) in
+    record {
+      grid = whole;
+      from = ran .0;
+      next = done .0;
+      shape = rw (termed-shape g (tail .values) columns rows slots) (room .0);
+      termed = terms-hold g (tail .values) (fill-within Terms terms-sent file (Done at) terms (ran .0) (ran .1));
+      done = done .1;
+      limits = body .1 .0;
+      is = to-shape ∙ room .1 ∙ to-body ∙ body .1 .1;
+    }
+
+-- widths that a done run read pass 5
+widths-hold : (from : Run) (file : List ℕ) (total next : ℕ) → fillOf from Widths file total .run ≡ Done next → allWithin (between (pos 1) (pos mostWidth)) (fillOf from Widths file total .values) total ≡ true
+unfolding allWithin endsOf
+widths-hold from file total next e = every-passes (λ k. inRange (between (pos 1) (pos mostWidth)) (getD (fillOf from Widths file total .values) k (pos 0))) total (fill-within Widths widths-sent file from total next e)
+
+-- a case passes 3 and 7 by its counts and its room
+shape-passes : (c : Case) → T (countsHold (c .grid)) → Roomy c → firstRefusal (shapeOf c) .number ≡ 0
+unfolding shapeOf roomHolds firstRefusal orElse
+shape-passes c t m =
+    let held = true-is {b = countsHold (c .grid)} t in
+    rw (held, le-leb _ _ (m .columns), le-leb _ _ (m .rows), le-leb _ _ (m .slots)) refl
+
+-- and 4, 5 and 6 by its terms, its widths and its blocks
+contents-pass : (c : Case) → termsHold (c .grid) ≡ true → widthsHold (c .grid) (c .columns) (c .rows) ≡ true → faultOf (c .grid) (c .slots) ≡ 0 → firstRefusal (contentsOf c) .number ≡ 0
+unfolding contentsOf firstRefusal orElse
+contents-pass c t w f = rw (t, w, f) refl
+
+-- a body that was read to its end passes all checks of slices, where its record passes 3 and 4, and it 9 and 10
+pub body-passes : (g : Grid) (file : List ℕ) (at next : ℕ) → T (countsHold g) → T (termsHold g) → slotsFrom g file at .run ≡ Done next → firstRefusal (limitsOf (caseFrom g file at)) .number ≡ 0 →
+    checkedOf (caseFrom g file at) ≡ none
+unfolding caseFrom widthsHold faultOf
+body-passes g file at next counted termed e limits =
+    let c = caseFrom g file at in
+    let columns = columnsFrom g file at .run in
+    let rows = rowsFrom g file at .run in
+    let row = blocks-before rows g file (blocksOf g) next e in
+    let column = done-before columns Widths file (g .rows) (row .0) (row .1) in
+    let slots = slotsFrom g file at .values in
+    let widths = ap₂ _&&_ (widths-hold (Done at) file (g .columns) (column .0) (column .1)) (widths-hold columns file (g .rows) (row .0) (row .1)) in
+    let fault = none-first (λ i. not (slotsHold (partOf slots i) (topOf g i))) (blocksOf g) (λ i l. ap not (true-is {b = slotsHold (partOf slots i) (topOf g i)} (blocks-hold rows g file (blocksOf g) next e i l))) in
+    none-refused (checksOf c)
+    (none-together (shapeOf c ++ contentsOf c) (limitsOf c)
+    (none-together (shapeOf c) (contentsOf c) (shape-passes c counted (body-roomy g file at next e)) (contents-pass c (true-is termed) widths fault))
+    limits)
+
+-- ---- every answer
+
+-- one of the refusals of a file
+abbrev pub Listed : ℕ → Type 0
+Listed n = (1 ≤ n) × (n ≤ 10)
+
+-- 1 to 6 are
+early-listed : Early Listed
+early-listed n least most = (least, omega arith)
+
+-- what a test refuses with is at most the last of them
+unless-most : (n : ℕ) (b : Bool) → n ≤ 10 → unless n b .number ≤ 10
+unless-most n true h = omega arith
+unless-most n false h = h
+
+-- so is what a blamed block does
+blaming-most : (n b : ℕ) → n ≤ 10 → blaming n b .number ≤ 10
+blaming-most n zero h = omega arith
+blaming-most n (suc b) h = h
+
+-- and the first of two
+first-most : (x y : Refusal) → x .number ≤ 10 → y .number ≤ 10 → firstRefusal (x ∷ y ∷ []) .number ≤ 10
+unfolding firstRefusal
+first-most x y h k = or-most x (orElse y none) h (or-most y none k (omega arith))
+  where
+    or-most : (x y : Refusal) → x .number ≤ 10 → y .number ≤ 10 → orElse x y .number ≤ 10
+    or-most x y h k = go (ℕ-discrete (x .number) 0)
+      where
+        go : Dec (x .number ≡ 0) → orElse x y .number ≤ 10
+        go (yes z) = rw (or-next x y z) k
+        go (no z) = rw (or-first x y z) h
+
+-- 3 and 7
+shape-most : (c : Case) → firstRefusal (shapeOf c) .number ≤ 10
+unfolding shapeOf
+shape-most c = first-most (unless 3 (countsHold (c .grid))) (unless 7 (roomHolds c)) (unless-most 3 (countsHold (c .grid)) (omega arith)) (unless-most 7 (roomHolds c) (omega arith))
+
+-- 9 and 10
+limits-most : (c : Case) → firstRefusal (limitsOf c) .number ≤ 10
+unfolding limitsOf
+limits-most c = first-most (blaming 9 (firstAtFault c 9)) (blaming 10 (firstAtFault c 10)) (blaming-most 9 (firstAtFault c 9) (omega arith)) (blaming-most 10 (firstAtFault c 10) (omega arith))
+
+-- 8, after what a run tells
+ending-most : (run : Run) (file : List ℕ) → Telling Listed run → endingOf run file .number ≤ 10
+unfolding endingOf
+ending-most (Refused r) file h = h r refl .1
+ending-most (Done at) file h = unless-most 8 (leb (length file) at) (omega arith)
+
+-- what holds of every case that is accepted and of every refusal from 1 to 10 holds of whatever a file is answered with
+module _ (Holds : Read → Type 0) (accepts : (c : Case) → Holds (accepting c)) (refuses : (r : Refusal) → Listed (r .number) → Holds (refusing r)) where
+  -- of what follows a refusal that may be none
+  judging-holds : (r : Refusal) (more : Read) → r .number ≤ 10 → Holds more → Holds (judging r more)
+  judging-holds r more most h = go (ℕ-discrete (r .number) 0)
+    where
+      go : Dec (r .number ≡ 0) → Holds (judging r more)
+      go (yes z) = rw (judging-goes-on r r more refl z) h
+      go (no z) = rw (judging-stays r r more refl z) (refuses r (omega (arith, follows (r .number) z), most))
+
+  -- of what follows a run
+  after-holds : (run : Run) (more : ℕ → Read) → Telling Listed run → ((at : ℕ) → Holds (more at)) → Holds (after run more)
+  unfolding after
+  after-holds (Refused r) more t h = refuses r (t r refl)
+  after-holds (Done at) more t h = h at
+
+  -- of what follows the terms
+  body-holds : (g : Grid) (file : List ℕ) (at : ℕ) → Holds (bodyOf g file at)
+  unfolding bodyOf settledOf
+  body-holds g file at =
+      let c = caseFrom g file at in
+      judging-holds (endingOf (slotsFrom g file at .run) file) (settledOf c) (ending-most (slotsFrom g file at .run) file (body-telling Listed early-listed g file at))
+      (judging-holds (firstRefusal (limitsOf c)) (accepting c) (limits-most c) (accepts c))
+
+  -- and of the whole file
+  pub read-holds : (file : List ℕ) (columns rows slots : List ℤ) → Holds (readingOf file columns rows slots)
+  unfolding readingOf termsOf
+  read-holds file columns rows slots =
+      let head = fillOf (Done 0) Counts file counts in
+      let g = countedOf (head .values) in
+      let c = caseOf g columns rows slots in
+      after-holds (head .run) (λ at. judging (firstRefusal (shapeOf c)) (termsOf g file at)) (run-listed 0 Counts counts)
+      (λ at. judging-holds (firstRefusal (shapeOf c)) (termsOf g file at) (shape-most c)
+      (let tail = fillOf (Done at) Terms file terms in
+      let whole = termedOf g (tail .values) in
+      after-holds (tail .run) (bodyOf whole file) (run-listed at Terms terms) (body-holds whole file)))
+    where
+      run-listed : (at : ℕ) (part : Part) (total : ℕ) → Telling Listed (fillOf (Done at) part file total .run)
+      run-listed at part total = fill-of-telling Listed early-listed (Done at) part file total (done-telling Listed at)

@@ -1,0 +1,239 @@
+// A case file, read into lent slices (document 01, "The case file"): "A file is judged number by number".
+pub mod fields;
+pub mod runs;
+
+ghost use mathlib.Core.Path.{_≡_};
+ghost use Prim.Native.Nat.{_≤_};
+ghost use lib.ListN.{length};
+ghost use Rattle.grid.specs.Judging.{Termed};
+ghost use Rattle.grid.specs.Place.{Counted};
+ghost use Rattle.slices.specs.Slices.{caseOf, Judged, Roomy};
+ghost use Rattle.casefile.specs.Runs.{over};
+ghost use Rattle.casefile.specs.declared.fields.Part.the-variants.{Counts, Terms};
+ghost use Rattle.casefile.specs.Fields.{Within};
+ghost use Rattle.casefile.specs.Reading.{
+  refusing,
+  countedOf,
+  termedOf,
+  settledOf,
+  bodyOf,
+  termsOf,
+  readingOf,
+};
+use fields::COUNTS;
+use fields::MOST_SLOTS;
+use fields::Part;
+use fields::TERMS;
+use grid::Grid;
+use grid::place::blocks;
+use grid::units::MOST_ACROSS;
+use runs::Run;
+use runs::ending;
+use runs::fill;
+use runs::fill_blocks;
+use slices::Refusal;
+use slices::shape;
+use slots::units::SLOTS;
+use wellformed::judge_limits;
+
+// A refusal, or the record of a case beside number 0. The record beside a refusal is all 0.
+pub struct Answer {
+    pub refusal: Refusal,
+    pub grid: Grid,
+}
+
+// What stands beside a refusal.
+const NO_GRID: Grid = Grid {
+    columns: 0,
+    rows: 0,
+    layers: 0,
+    delta: 0,
+    flag: 0,
+    step: 0,
+    tolerance: 0,
+};
+
+// A refusal beside a record that is all 0.
+fn refused(refusal: Refusal) -> Answer
+    ensures { λ r. ⌜ r ≡ refusing refusal .answer ⌝ }
+{
+    Answer {
+        refusal,
+        grid: NO_GRID,
+    }
+}
+
+// The record of a case by its three counts. Inner: they are within their ends.
+fn counted(counts: &[i64]) -> Grid
+    requires { ⌜ 3 ≤ length (now counts) ⌝ }
+    requires { ⌜ Within Counts 3 (now counts) ⌝ }
+    ensures { λ r. ⌜ r ≡ countedOf (now (counts .entry)) ⌝ }
+{
+    Grid {
+        columns: counts[0] as usize,
+        rows: counts[1] as usize,
+        layers: counts[2] as usize,
+        delta: 0,
+        flag: 0,
+        step: 0,
+        tolerance: 0,
+    }
+}
+
+// The record of a case with its four terms. Inner: they are within their ends.
+fn termed(g: Grid, terms: &[i64]) -> Grid
+    requires { ⌜ 4 ≤ length (now terms) ⌝ }
+    requires { ⌜ Within Terms 4 (now terms) ⌝ }
+    ensures { λ r. ⌜ r ≡ termedOf g (now (terms .entry)) ⌝ }
+{
+    Grid {
+        columns: g.columns,
+        rows: g.rows,
+        layers: g.layers,
+        delta: terms[0],
+        flag: terms[1] as u64,
+        step: terms[2],
+        tolerance: terms[3],
+    }
+}
+
+// Some numbers over the front of a slice. Inner: it has room.
+pub fn copy_front(from: &[i64], to: &mut [i64])
+    requires { ⌜ length (now from) ≤ length (now to) ⌝ }
+    ensures { λ _. ⌜ now (to .exit) ≡ over (now (from .entry)) (now (to .entry)) ⌝ }
+{
+    for k in 0..from.len() {
+        to[k] = from[k];
+    }
+}
+
+// "9, 10", and the numbers of a case that neither refuses over the front of the lent slices. Inner: 3, 7, 4, 5 and 6 do not refuse the case, and the
+// lent slices have room.
+fn settle(
+    g: Grid,
+    own_columns: &[i64],
+    own_rows: &[i64],
+    own_slots: &[i64],
+    columns: &mut [i64],
+    rows: &mut [i64],
+    slots: &mut [i64],
+) -> Answer
+    requires { ⌜ Judged (caseOf g (now «own_columns») (now «own_rows») (now «own_slots»)) ⌝ }
+    requires { ⌜ length (now «own_columns») ≤ length (now columns) ⌝ }
+    requires { ⌜ length (now «own_rows») ≤ length (now rows) ⌝ }
+    requires { ⌜ length (now «own_slots») ≤ length (now slots) ⌝ }
+    ensures answer { λ r. ⌜ r ≡ settledOf (caseOf g (now («own_columns» .entry)) (now («own_rows» .entry)) (now («own_slots» .entry))) .answer ⌝ }
+    ensures columns { λ _. ⌜ now (columns .exit) ≡ over (settledOf (caseOf g (now («own_columns» .entry)) (now («own_rows» .entry)) (now («own_slots» .entry))) .columns) (now (columns .entry)) ⌝ }
+    ensures rows { λ _. ⌜ now (rows .exit) ≡ over (settledOf (caseOf g (now («own_columns» .entry)) (now («own_rows» .entry)) (now («own_slots» .entry))) .rows) (now (rows .entry)) ⌝ }
+    ensures slots { λ _. ⌜ now (slots .exit) ≡ over (settledOf (caseOf g (now («own_columns» .entry)) (now («own_rows» .entry)) (now («own_slots» .entry))) .slots) (now (slots .entry)) ⌝ }
+{
+    let refusal = judge_limits(g, own_columns, own_rows, own_slots);
+    if refusal.number != 0 {
+        return refused(refusal);
+    }
+    copy_front(own_columns, columns);
+    copy_front(own_rows, rows);
+    copy_front(own_slots, slots);
+    Answer {
+        refusal: Refusal {
+            number: 0,
+            block: 0,
+        },
+        grid: g,
+    }
+}
+
+// What follows the terms, read into arrays of its own, and where nothing refuses it over the front of the lent slices. Inner: the record is in range
+// and the lent slices have room.
+fn read_body(
+    file: &[u8],
+    at: usize,
+    g: Grid,
+    columns: &mut [i64],
+    rows: &mut [i64],
+    slots: &mut [i64],
+) -> Answer
+    requires { ⌜ Counted g × Termed g ⌝ }
+    requires { ⌜ Roomy (caseOf g (now columns) (now rows) (now slots)) ⌝ }
+    ensures answer { λ r. ⌜ r ≡ bodyOf g (now (file .entry)) at .answer ⌝ }
+    ensures columns { λ _. ⌜ now (columns .exit) ≡ over (bodyOf g (now (file .entry)) at .columns) (now (columns .entry)) ⌝ }
+    ensures rows { λ _. ⌜ now (rows .exit) ≡ over (bodyOf g (now (file .entry)) at .rows) (now (rows .entry)) ⌝ }
+    ensures slots { λ _. ⌜ now (slots .exit) ≡ over (bodyOf g (now (file .entry)) at .slots) (now (slots .entry)) ⌝ }
+{
+    let mut own_columns = [0i64; MOST_ACROSS];
+    let mut own_rows = [0i64; MOST_ACROSS];
+    let mut own_slots = [0i64; MOST_SLOTS];
+    let across = g.columns;
+    let along = g.rows;
+    let total = SLOTS * blocks(g);
+    let start = Run::Done { next: at };
+    let columns_read = fill(file, start, Part::Widths, across, &mut own_columns);
+    let rows_read = fill(file, columns_read, Part::Widths, along, &mut own_rows);
+    let run = fill_blocks(file, rows_read, g, &mut own_slots);
+    let end = ending(file, run);
+    if end.number != 0 {
+        return refused(end);
+    }
+    settle(
+        g,
+        &own_columns[..across],
+        &own_rows[..along],
+        &own_slots[..total],
+        columns,
+        rows,
+        slots,
+    )
+}
+
+// What follows the counts. Inner: they are in range and the lent slices have room.
+fn read_terms(
+    file: &[u8],
+    at: usize,
+    g: Grid,
+    columns: &mut [i64],
+    rows: &mut [i64],
+    slots: &mut [i64],
+) -> Answer
+    requires { ⌜ Counted g ⌝ }
+    requires { ⌜ Roomy (caseOf g (now columns) (now rows) (now slots)) ⌝ }
+    ensures answer { λ r. ⌜ r ≡ termsOf g (now (file .entry)) at .answer ⌝ }
+    ensures columns { λ _. ⌜ now (columns .exit) ≡ over (termsOf g (now (file .entry)) at .columns) (now (columns .entry)) ⌝ }
+    ensures rows { λ _. ⌜ now (rows .exit) ≡ over (termsOf g (now (file .entry)) at .rows) (now (rows .entry)) ⌝ }
+    ensures slots { λ _. ⌜ now (slots .exit) ≡ over (termsOf g (now (file .entry)) at .slots) (now (slots .entry)) ⌝ }
+{
+    let mut terms = [0i64; TERMS];
+    let start = Run::Done { next: at };
+    match fill(file, start, Part::Terms, TERMS, &mut terms) {
+        Run::Refused { refusal } => refused(refusal),
+        Run::Done { next } => read_body(file, next, termed(g, &terms), columns, rows, slots),
+    }
+}
+
+// Reads a case file. The answer is its record, or the first of 1 to 10 that the file is refused with, and the block that the refusal names. `columns` and
+// `rows` are lent for the widths in metres, `slots` for sixteen slots a block: what was read goes over the front of each, and the rest of it is as it
+// was. A refusal changes none of them. Any bytes, and slices of any length, are answered.
+pub fn read_case(file: &[u8], columns: &mut [i64], rows: &mut [i64], slots: &mut [i64]) -> Answer
+    ensures answer { λ r. ⌜ r ≡ readingOf (now (file .entry)) (now (columns .entry)) (now (rows .entry)) (now (slots .entry)) .answer ⌝ }
+    ensures columns { λ _. ⌜ now (columns .exit) ≡ over (readingOf (now (file .entry)) (now (columns .entry)) (now (rows .entry)) (now (slots .entry)) .columns) (now (columns .entry)) ⌝ }
+    ensures rows { λ _. ⌜ now (rows .exit) ≡ over (readingOf (now (file .entry)) (now (columns .entry)) (now (rows .entry)) (now (slots .entry)) .rows) (now (rows .entry)) ⌝ }
+    ensures slots { λ _. ⌜ now (slots .exit) ≡ over (readingOf (now (file .entry)) (now (columns .entry)) (now (rows .entry)) (now (slots .entry)) .slots) (now (slots .entry)) ⌝ }
+{
+    let mut counts = [0i64; COUNTS];
+    match fill(
+        file,
+        Run::Done { next: 0 },
+        Part::Counts,
+        COUNTS,
+        &mut counts,
+    ) {
+        Run::Refused { refusal } => refused(refusal),
+        Run::Done { next } => {
+            let g = counted(&counts);
+            let refusal = shape(g, columns, rows, slots);
+            if refusal.number != 0 {
+                return refused(refusal);
+            }
+            read_terms(file, next, g, columns, rows, slots)
+        }
+    }
+}

@@ -1,0 +1,3 @@
+pub mod NumbersLaws
+pub mod NumbersTheorems
+pub mod WorkedTheorems

@@ -1,0 +1,47 @@
+-- Numbers of a case file (document 01, "The case file").
+use mathlib.Core.Bool.{cond}
+use mathlib.Core.List.{List, [], _∷_}
+use Prim.Native.Nat.{ℕ, zero, suc, _+_, _*_, _/_, _%_}
+use lib.Dec.{eqb, ltb}
+use lib.IntN.{ℤ, pos, negsuc}
+use lib.ListN.{length, getD}
+use Rattle.numbers.specs.declared.Number.{Number}
+use Rattle.numbers.specs.declared.Number.the-variants.{Value, Ended, TooLong}
+
+-- "at most five bytes"
+abbrev pub mostBytes : ℕ
+mostBytes = 5
+
+-- "Numbers in groups of seven bits, low group first, high bit set on all but the last byte, at most five bytes, shortest form only." The number whose
+-- next byte is at a place, where `left` bytes may still be read: its group has the weight `weight`, and those before it are worth `sum`. A last byte below
+-- `least`, which is 0 for the first byte and 1 after it, makes the form longer than the shortest. 1: "the file ends where a byte is still needed"; 2: "a
+-- number is longer than its shortest form, or a fifth byte has its high bit set".
+unfoldable pub numberFrom : ℕ → ℕ → ℕ → ℕ → List ℕ → ℕ → Number
+numberFrom zero least weight sum file at = TooLong
+numberFrom (suc left) least weight sum file at =
+    cond (ltb at (length file))
+    (cond (ltb (getD file at 0) 128)
+    (cond (ltb (getD file at 0) least) TooLong (Value (sum + getD file at 0 % 128 * weight) (at + 1)))
+    (numberFrom left 1 (weight * 128) (sum + getD file at 0 % 128 * weight) file (at + 1)))
+    Ended
+
+-- the number whose first byte is at a place
+abbrev pub numberAt : List ℕ → ℕ → Number
+numberAt file at = numberFrom mostBytes 0 1 0 file at
+
+-- the bytes of a number in its shortest form, in at most `left` bytes
+unfoldable pub bytesFrom : ℕ → ℕ → List ℕ
+bytesFrom zero n = []
+bytesFrom (suc left) n = cond (ltb n 128) (n ∷ []) ((128 + n % 128) ∷ bytesFrom left (n / 128))
+
+abbrev pub bytesOf : ℕ → List ℕ
+bytesOf n = bytesFrom mostBytes n
+
+-- "Signed fields .. are sent as 2n for n ≥ 0 and -2n-1 below zero"; negsuc m is -(m + 1), for which -2n-1 is 2m + 1
+abbrev pub sentOf : ℤ → ℕ
+sentOf (pos m) = m * 2
+sentOf (negsuc m) = m * 2 + 1
+
+-- the signed number that is sent so
+unfoldable pub signedOf : ℕ → ℤ
+signedOf n = cond (eqb (n % 2) 0) (pos (n / 2)) (negsuc (n / 2))

@@ -1,0 +1,173 @@
+-- Laws of what is printed: how many lines tables have, and what stands beside an answer. Assumes nothing.
+use mathlib.Core.Bool.{Bool, cond, false, true}
+use mathlib.Core.List.{List, _++_, append-assoc}
+use mathlib.Core.Logic.{⊎-elim}
+use mathlib.Core.Path.{_∙_, _≡_, refl}
+use Prim.Native.Nat.{_*_, _+_, _<_, _≤_, suc, zero, ℕ}
+use native.Mathlib.Decide.{decLt, ℕ-discrete}
+use native.Mathlib.Nat.{eq-or-lt-of-le, le-of-suc-le-suc}
+use native.Mathlib.Numerals.{add-one}
+use native.Mathlib.Omega.{arith}
+use lib.Dec.{eqb}
+use lib.IntN.{pos, ℤ}
+use lib.ListN.{drop, length, length-append, replicate, take}
+use lib.Seq.{drop-at, take-at}
+use borrow.Author.Tests.{eq-eqb, le-ltb, lt-ltb, ne-eqb}
+use Rattle.slices.specs.declared.Refusal.{Refusal}
+use Rattle.slices.specs.Slices.{Case, caseOf, none, refusal}
+use Rattle.slices.proofs.SlicesLaws.{none-refused}
+use Rattle.wellformed.specs.Limits.{checkedOf, checksOf}
+use Rattle.wellformed.proofs.LimitsLaws.{checked-stands}
+use Rattle.verdict.specs.declared.Answer.{Answer}
+use Rattle.verdict.specs.declared.Verdict.{Verdict}
+use Rattle.verdict.specs.Ruling.{answerOf}
+use Rattle.budget.specs.Answers.{caseRefusal, eighteenOf, everywhere, layerAnswer, layerZone, tabled, wholeAnswer}
+use Rattle.budget.specs.Tables.{rowOf}
+use Rattle.casefile.specs.Reading.{Read, readingOf}
+use Rattle.casefile.specs.Runs.{over}
+use Rattle.session.specs.Sessions.{alone, caseIn, fileSession, firstLineOnly, layersOf, lentSlots, lentWidths, mostFile, noLines, readSession, refusing, ruling, sessionOf, tablesOf, withTables}
+use Rattle.casefile.specs.declared.Answer as file
+
+-- ---- lines of tables
+
+-- lines beside a refusal or none are as many
+tabled-length : (r : Refusal) (lines : List ℤ) → length lines ≡ 18 → length (tabled r lines .lines) ≡ 18
+tabled-length r lines h = go (eqb (r .number) 0)
+  where
+    go : (b : Bool) → length (cond b lines (replicate 18 (pos 0))) ≡ 18
+    go true = h
+    go false = refl
+
+-- a zone has eighteen lines
+eighteen-length : (c : Case) (z : ℕ → Bool) → length (eighteenOf c z) ≡ 18
+unfolding eighteenOf rowOf
+eighteen-length c z = refl
+
+-- the table of a layer has eighteen lines
+pub layer-length : (c : Case) (n : ℕ) → length (layerAnswer c n .lines) ≡ 18
+unfolding layerAnswer
+layer-length c n = tabled-length (caseRefusal c) (eighteenOf c (layerZone (c .grid) n)) (eighteen-length c (layerZone (c .grid) n))
+
+-- the table of the whole has eighteen lines
+pub whole-length : (c : Case) → length (wholeAnswer c .lines) ≡ 18
+unfolding wholeAnswer
+whole-length c = tabled-length (caseRefusal c) (eighteenOf c everywhere) (eighteen-length c everywhere)
+
+-- the tables of the first n layers have eighteen lines each
+pub layers-length : (c : Case) (n : ℕ) → length (layersOf c n) ≡ 18 * n
+unfolding layersOf
+layers-length c zero = refl
+layers-length c (suc n) = omega (arith, length-append (layersOf c n) (layerAnswer c (suc n) .lines), layer-length c (suc n), layers-length c n)
+
+-- one layer more
+pub layers-more : (c : Case) (n : ℕ) → layersOf c (n + 1) ≡ layersOf c n ++ layerAnswer c (n + 1) .lines
+unfolding layersOf
+layers-more c n = rw add-one
+
+-- a layer's table is found again among those of the first m layers
+pub layer-among : (c : Case) (n m : ℕ) (rest : List ℤ) → n < m → take 18 (drop (18 * n) (layersOf c m ++ rest)) ≡ layerAnswer c (n + 1) .lines
+unfolding layersOf
+layer-among c n zero rest l = absurd (omega arith)
+layer-among c n (suc m) rest l =
+    let lines = layerAnswer c (suc m) .lines in
+    rw (append-assoc (layersOf c m) lines rest)
+    (⊎-elim (λ same. rw same (rw (drop-at (layersOf c m) (lines ++ rest) (18 * m) (layers-length c m), add-one) (take-at lines rest 18 (layer-length c (suc m)))))
+    (λ less. layer-among c n m (lines ++ rest) less)
+    (eq-or-lt-of-le (le-of-suc-le-suc l)))
+
+-- ---- what stands beside an answer
+
+-- an answer of `verdict_of_slices`
+module _ (c : Case) {a : Answer} (told : a ≡ answerOf c) where
+  -- the answer's refusal is that of the case
+  checked : a .refusal ≡ checkedOf c
+  unfolding answerOf
+  checked = λ i. told i .refusal
+
+  -- where it refuses nothing it is none
+  unrefused : a .refusal .number ≡ 0 → a .refusal ≡ none
+  unrefused z = checked ∙ none-refused (checksOf c) (rw (← checked) z)
+
+  -- a case that is not refused has at most eight layers
+  pub layers-few : a .refusal .number ≡ 0 → c .grid .layers ≤ 8
+  layers-few z = checked-stands c (rw (← checked) z) .judged .counted .layers-most
+
+  -- the numbers of a refusal
+  pub session-refused : (a .refusal .number ≡ 0 → ⊥) → refusing (a .refusal) ≡ sessionOf c
+  unfolding sessionOf
+  session-refused n = rw (← told, ne-eqb (a .refusal .number) 0 n)
+
+  -- a verdict alone
+  pub session-alone : a .refusal .number ≡ 0 → firstLineOnly (a .verdict .code) ≡ true → record { refusal = a .refusal; verdict = a .verdict; tables = 0; lines = noLines } ≡ sessionOf c
+  unfolding sessionOf ruling
+  session-alone z f = rw (← told, eq-eqb (a .refusal .number) 0 z, f, unrefused z)
+
+  -- a verdict and the tables
+  pub session-tables : {lines : List ℤ} → a .refusal .number ≡ 0 → firstLineOnly (a .verdict .code) ≡ false → lines ≡ over (tablesOf c) noLines →
+      record { refusal = a .refusal; verdict = a .verdict; tables = c .grid .layers + 1; lines = lines } ≡ sessionOf c
+  unfolding sessionOf ruling
+  session-tables z f e = rw (← told, eq-eqb (a .refusal .number) 0 z, f, unrefused z, e)
+
+-- where tables are printed the lines are theirs
+pub tables-lines : (c : Case) → sessionOf c .tables ≡ c .grid .layers + 1 → sessionOf c .lines ≡ over (tablesOf c) noLines
+unfolding sessionOf ruling
+tables-lines c e = go (eqb (answerOf c .refusal .number) 0) (firstLineOnly (answerOf c .verdict .code)) e
+  where
+    go : (b d : Bool) → cond b (cond d (alone (answerOf c .verdict)) (withTables c (answerOf c .verdict))) (refusing (answerOf c .refusal)) .tables ≡ c .grid .layers + 1 →
+        cond b (cond d (alone (answerOf c .verdict)) (withTables c (answerOf c .verdict))) (refusing (answerOf c .refusal)) .lines ≡ over (tablesOf c) noLines
+    go true true e = absurd (omega arith)
+    go true false e = refl
+    go false d e = absurd (omega arith)
+
+-- what is printed beside an answer has its verdict
+ruling-verdict : (c : Case) (v : Verdict) → ruling c v .verdict ≡ v
+unfolding ruling
+ruling-verdict c v = go (firstLineOnly (v .code))
+  where
+    go : (b : Bool) → cond b (alone v) (withTables c v) .verdict ≡ v
+    go true = refl
+    go false = refl
+
+-- a session that is no refusal has the answer's verdict, on a case that is not refused
+pub session-unrefused : (c : Case) → sessionOf c .refusal .number ≡ 0 → (checkedOf c .number ≡ 0) × (sessionOf c .verdict ≡ answerOf c .verdict)
+unfolding sessionOf
+session-unrefused c = go (ℕ-discrete (answerOf c .refusal .number) 0)
+  where
+    go : Dec (answerOf c .refusal .number ≡ 0) → sessionOf c .refusal .number ≡ 0 → (checkedOf c .number ≡ 0) × (sessionOf c .verdict ≡ answerOf c .verdict)
+    go (yes h) e = (rw (checked c refl) at h, rw (eq-eqb (answerOf c .refusal .number) 0 h) (ruling-verdict c (answerOf c .verdict)))
+    go (no h) e = absurd (h (rw (ne-eqb (answerOf c .refusal .number) 0 h) at e))
+
+-- ---- a file
+
+-- a file that is too long
+pub file-long : (file : List ℕ) → mostFile < length file → refusing (refusal 8 0) ≡ fileSession file
+unfolding fileSession
+file-long file h = rw (lt-ltb mostFile (length file) h)
+
+-- one that is not is read
+pub file-read : (file : List ℕ) → length file ≤ mostFile → fileSession file ≡ readSession (readingOf file lentWidths lentWidths lentSlots)
+unfolding fileSession
+file-read file h = rw (le-ltb mostFile (length file) h)
+
+-- what is printed for a file that was refused as it was read
+pub read-refused : (r : Read) (a : file.Answer) → a ≡ r .answer → (a .refusal .number ≡ 0 → ⊥) → refusing (a .refusal) ≡ readSession r
+unfolding readSession
+read-refused r a e h = rw (← e, ne-eqb (a .refusal .number) 0 h)
+
+-- and for one that was not
+pub read-accepted : (r : Read) (a : file.Answer) (columns rows slots : List ℤ) → a ≡ r .answer → columns ≡ over (r .columns) lentWidths → rows ≡ over (r .rows) lentWidths → slots ≡ over (r .slots) lentSlots → a .refusal .number ≡ 0 → sessionOf (caseOf (a .grid) columns rows slots) ≡ readSession r
+unfolding readSession caseIn
+read-accepted r a columns rows slots e f g h z = rw (← e, eq-eqb (a .refusal .number) 0 z) (λ i. sessionOf (caseOf (a .grid) (f i) (g i) (h i)))
+
+-- a file for which no refusal is printed was read
+pub file-unrefused : (file : List ℕ) → fileSession file .refusal .number ≡ 0 → fileSession file ≡ sessionOf (caseIn (readingOf file lentWidths lentWidths lentSlots))
+unfolding fileSession readSession
+file-unrefused file = go (decLt mostFile (length file)) (ℕ-discrete (readingOf file lentWidths lentWidths lentSlots .answer .refusal .number) 0)
+  where
+    r : Read
+    r = readingOf file lentWidths lentWidths lentSlots
+
+    go : Dec (mostFile < length file) → Dec (r .answer .refusal .number ≡ 0) → fileSession file .refusal .number ≡ 0 → fileSession file ≡ sessionOf (caseIn r)
+    go (yes h) d e = let z : _≡_ {A = ℕ} 8 0 = rw (lt-ltb mostFile (length file) h) at e in absurd (omega arith)
+    go (no h) (yes z) e = rw (le-ltb mostFile (length file) (omega arith), eq-eqb (r .answer .refusal .number) 0 z) refl
+    go (no h) (no z) e = absurd (z (rw (le-ltb mostFile (length file) (omega arith), ne-eqb (r .answer .refusal .number) 0 z) at e))
