@@ -1,6 +1,7 @@
 // Stored batches: inputs of the program, and reads into slices of given lengths.
-ghost use Prim.Native.Nat.{_≤_, _<_};
+ghost use Prim.Native.Nat.{_≤_};
 ghost use Rattle.io.specs.Counts.{Counts};
+use super::words::four_bytes;
 use casefile::Answer;
 use casefile::fields::MOST_SLOTS;
 use casefile::read_case;
@@ -21,20 +22,13 @@ use slots::units::SLOTS;
 // More than any stored file has.
 const ROOM: usize = 65_536;
 
-// More files than a batch has.
-const MOST_FILES: usize = 1_000;
+// More entries than a batch has.
+pub const MOST_ENTRIES: usize = 1_000;
 
 // A number of a batch, or its end.
 enum Due {
     Number { value: usize },
     Ended,
-}
-
-// A byte as a wider number.
-fn wide(x: u8) -> usize
-    ensures { λ r. ⌜ r < 256 ⌝ }
-{
-    x as usize
 }
 
 // The next number of a batch, in four bytes, the lowest first.
@@ -45,15 +39,12 @@ fn next_number(fd: i32) -> Due {
         return Due::Ended;
     }
     Due::Number {
-        value: wide(bytes[0])
-            + 256 * wide(bytes[1])
-            + 65_536 * wide(bytes[2])
-            + 16_777_216 * wide(bytes[3]),
+        value: four_bytes(&bytes, 0) as usize,
     }
 }
 
 // The lesser of a length and the room for it.
-fn at_most(length: usize, room: usize) -> usize
+pub fn at_most(length: usize, room: usize) -> usize
     ensures { λ r. ⌜ r ≤ room ⌝ }
 {
     if length < room { length } else { room }
@@ -78,7 +69,7 @@ fn run_case(fd: i32, length: usize) {
 // data/cases.bin: a length and so many bytes for each file.
 pub fn run_cases() {
     let fd = os::open_read(b"cases.bin");
-    for _ in 0..MOST_FILES {
+    for _ in 0..MOST_ENTRIES {
         match next_number(fd) {
             Due::Ended => {
                 return;
@@ -165,7 +156,7 @@ fn number_or_zero(fd: i32) -> usize {
 // data/reads.bin: for each file the lengths of the lent column widths, row widths and slots, the file's own length, and so many bytes.
 pub fn run_reads() {
     let fd = os::open_read(b"reads.bin");
-    for _ in 0..MOST_FILES {
+    for _ in 0..MOST_ENTRIES {
         match next_number(fd) {
             Due::Ended => {
                 return;

@@ -1,0 +1,4 @@
+pub mod Metres
+pub mod Boundaries
+pub mod Patterns
+pub mod Meaning

@@ -1,0 +1,3 @@
+pub mod ReportLaws
+pub mod ReportTheorems
+pub mod WorkedTheorems

@@ -1,0 +1,113 @@
+-- A block's report, by the steps of the code. Assumes nothing.
+use mathlib.Core.Bool.{Bool, _&&_, cond, false, true}
+use mathlib.Core.List.{List, [], _∷_}
+use mathlib.Core.Path.{_∙_, _≡_, ap, refl, subst, sym}
+use Prim.Native.Nat.{_-_, _<_, _≤_, ℕ}
+use native.Mathlib.Nat.{le-trans}
+use native.Mathlib.Omega.{arith}
+use lib.Dec.{T, eqb, leb, leb→le, lit≤}
+use lib.IntN.{pos, ℤ}
+use lib.Signed.{leZ-yes}
+use borrow.Author.Tests.{eq-eqb, le-leb, lt-leb, ne-eqb}
+use Rattle.whole.specs.Whole.{Abs, In}
+use Rattle.whole.proofs.OrderLaws.{abs-in, in-abs, ≤ℤ-trans}
+use Rattle.whole.proofs.SearchLaws.{both, true-is}
+use Rattle.grid.specs.declared.Grid.{Grid}
+use Rattle.grid.specs.Place.{blocksOf, topOf}
+use Rattle.slots.specs.Slots.{blockOf, isActive}
+use Rattle.slots.specs.Units.{mostLevel, mostThickness}
+use Rattle.slices.specs.declared.Refusal.{Refusal}
+use Rattle.slices.specs.Slices.{Case, firstRefusal, none, orElse, refusal}
+use Rattle.slices.proofs.SlicesLaws.{first-goes-on, first-stays, none-refused}
+use Rattle.block.specs.Units.{mostInterface}
+use Rattle.metres.specs.Metres.{mostShown}
+use Rattle.metres.proofs.ShownLaws.{level-shown}
+use Rattle.wellformed.specs.Limits.{checkedOf, checksOf}
+use Rattle.report.specs.declared.Report.{Report}
+use Rattle.report.specs.Reports.{Named, namesActive, naming, noReport, reportAnswer, reportOf, reportRefusal, telling}
+
+-- ---- numbers that a double holds
+
+pub interface-shown : {z : ℤ} → Abs mostInterface z → Abs mostShown z
+interface-shown h = abs-in (le-trans (in-abs h) (lit≤ tt))
+
+-- a thickness is at most 4,194,304 too
+pub thick-level : {z : ℤ} → In (pos 0) (pos mostThickness) z → Abs mostLevel z
+thick-level h = record { low = ≤ℤ-trans (leZ-yes tt) (h .low); high = h .high }
+
+pub thickness-shown : {z : ℤ} → In (pos 0) (pos mostThickness) z → Abs mostShown z
+thickness-shown h = level-shown (thick-level h)
+
+-- ---- which numbers name an active block
+
+module _ (g : Grid) (slots : List ℤ) (number : ℕ) where
+  abbrev rest : Bool
+  rest = leb number (blocksOf g) && isActive (blockOf slots (number - 1))
+
+  pub none-named : number < 1 → false ≡ namesActive g slots number
+  unfolding namesActive
+  none-named h = sym (ap (λ b. b && rest) (lt-leb 1 number h))
+
+  module _ (some : 1 ≤ number) where
+    named-rest : rest ≡ namesActive g slots number
+    unfolding namesActive
+    named-rest = sym (ap (λ b. b && rest) (le-leb 1 number some))
+
+    pub beyond-named : blocksOf g < number → false ≡ namesActive g slots number
+    beyond-named h = sym (ap (λ b. b && isActive (blockOf slots (number - 1))) (lt-leb number (blocksOf g) h)) ∙ named-rest
+
+    pub active-named : number ≤ blocksOf g → isActive (blockOf slots (number - 1)) ≡ namesActive g slots number
+    active-named h = sym (ap (λ b. b && isActive (blockOf slots (number - 1))) (le-leb number (blocksOf g) h)) ∙ named-rest
+
+-- the test as the theorems say it
+pub named : (c : Case) (number : ℕ) → namesActive (c .grid) (c .slots) number ≡ true → Named c number
+unfolding namesActive
+named c number e =
+    let h = both (leb 1 number) (rest (c .grid) (c .slots) number) (subst T (sym e) tt) in
+    let k = both (leb number (blocksOf (c .grid))) (isActive (blockOf (c .slots) (number - 1))) (h .1) in
+    (leb→le 1 number (h .0), (leb→le number (blocksOf (c .grid)) (k .0), k .1))
+
+pub names : (c : Case) (number : ℕ) → Named c number → namesActive (c .grid) (c .slots) number ≡ true
+names c number h = sym (active-named (c .grid) (c .slots) number (h .0) (h .1 .0)) ∙ true-is (h .1 .1)
+
+-- the block that it names is inside
+pub named-inside : (c : Case) (number : ℕ) → Named c number → number - 1 < blocksOf (c .grid)
+named-inside c number h = omega (arith, h .0, h .1 .0)
+
+-- ---- answers
+
+naming-alone : (number : ℕ) (b : Bool) → cond b none (refusal 14 number) ≡ firstRefusal (cond b none (refusal 14 number) ∷ [])
+unfolding firstRefusal orElse
+naming-alone number true = refl
+naming-alone number false = refl
+
+pub naming-none : (number : ℕ) (b : Bool) → firstRefusal (cond b none (refusal 14 number) ∷ []) .number ≡ 0 → b ≡ true
+unfolding firstRefusal orElse
+naming-none number true e = refl
+naming-none number false e = absurd (omega (arith, e))
+
+module _ (c : Case) (number : ℕ) where
+  abbrev own : Report
+  own = reportOf (c .grid) (blockOf (c .slots) (number - 1)) (topOf (c .grid) (number - 1))
+
+  -- by what it is refused with
+  refused-is : (r : Refusal) → r ≡ reportRefusal c number → (r .number ≡ 0 → ⊥) → telling r noReport ≡ reportAnswer c number
+  unfolding reportAnswer
+  refused-is r e h = subst (λ q. telling r noReport ≡ telling q (cond (eqb (q .number) 0) own noReport)) e (ap (telling r) (sym (ap (λ b. cond b own noReport) (ne-eqb (r .number) 0 h))))
+
+  pub check-refuses : (r : Refusal) → r ≡ checkedOf c → (r .number ≡ 0 → ⊥) → telling r noReport ≡ reportAnswer c number
+  check-refuses r e h = refused-is r (first-stays (checksOf c) (naming c number ∷ []) r e h) h
+
+  module _ (checked : checkedOf c .number ≡ 0) where
+    pub refusal-is : naming c number ≡ reportRefusal c number
+    refusal-is = first-goes-on (checksOf c) (naming c number ∷ []) (checkedOf c) refl (naming c number) checked (naming-alone number (namesActive (c .grid) (c .slots) number))
+
+    pub fourteen : namesActive (c .grid) (c .slots) number ≡ false → telling (refusal 14 number) noReport ≡ reportAnswer c number
+    fourteen e = refused-is (refusal 14 number) (sym (ap (λ b. cond b none (refusal 14 number)) e) ∙ refusal-is) (omega arith)
+
+    pub reported : namesActive (c .grid) (c .slots) number ≡ true → (r : Refusal) (x : Report) → r ≡ checkedOf c → x ≡ own → telling r x ≡ reportAnswer c number
+    unfolding reportAnswer
+    reported e r x told is =
+        let nothing = told ∙ none-refused (checksOf c) checked in
+        subst (λ q. telling r x ≡ telling q (cond (eqb (q .number) 0) own noReport)) (nothing ∙ sym (ap (λ b. cond b none (refusal 14 number)) e) ∙ refusal-is)
+        (ap (telling r) (is ∙ sym (ap (λ b. cond b own noReport) (eq-eqb (r .number) 0 (ap (λ q. q .number) nothing)))))

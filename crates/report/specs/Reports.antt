@@ -1,0 +1,72 @@
+-- A block's report (document 01, "Metres"), and what it is refused with.
+use mathlib.Core.Bool.{Bool, _&&_, cond}
+use mathlib.Core.List.{List, [], _++_, _∷_}
+use Prim.Native.Nat.{_-_, _≤_, ℕ}
+use lib.Dec.{T, eqb, leb}
+use lib.IntN.{ℤ}
+use Rattle.grid.specs.declared.Grid.{Grid}
+use Rattle.grid.specs.Place.{blocksOf, topOf}
+use Rattle.slots.specs.declared.Block.{Block}
+use Rattle.slots.specs.Slots.{blockOf, isActive}
+use Rattle.slices.specs.declared.Refusal.{Refusal}
+use Rattle.slices.specs.Slices.{Case, firstRefusal, none, refusal}
+use Rattle.block.specs.declared.Fluids.{Fluids}
+use Rattle.block.specs.Density.{interfaceOf}
+use Rattle.block.specs.Fluids.{newHeads}
+use Rattle.block.specs.Geometry.{levelsOf, thicknessesOf}
+use Rattle.metres.specs.Metres.{metresOf, zeroMetres}
+use Rattle.wellformed.specs.Limits.{checksOf}
+use Rattle.report.specs.declared.Answer.{Answer}
+use Rattle.report.specs.declared.Report.{Report}
+
+-- "both heads, interface and both thicknesses in metres", from ticks
+abbrev pub inMetres : Fluids → ℤ → Fluids → Report
+inMetres heads interface waters =
+    record {
+      «fresh_head» = metresOf (heads .fresh);
+      «salt_head» = metresOf (heads .salt);
+      interface = metresOf interface;
+      «fresh_thickness» = metresOf (waters .fresh);
+      «salt_thickness» = metresOf (waters .salt);
+    }
+
+-- "A block's report gives both heads, interface and both thicknesses in metres, from new heads, the interface being ζ."
+unfoldable pub reportOf : Grid → Block → Bool → Report
+reportOf g b top = inMetres (newHeads b) (interfaceOf g (newHeads b)) (thicknessesOf (levelsOf g b top (newHeads b)))
+
+-- a number is that of an active block: "Blocks are numbered from 1, by layer, then row, then column."
+unfoldable pub namesActive : Grid → List ℤ → ℕ → Bool
+namesActive g slots number = leb 1 number && (leb number (blocksOf g) && isActive (blockOf slots (number - 1)))
+
+-- the same, as the theorems say it
+abbrev pub Named : Case → ℕ → Type 0
+Named c number = (1 ≤ number) × ((number ≤ blocksOf (c .grid)) × T (isActive (blockOf (c .slots) (number - 1))))
+
+-- 14: "a report names no active block"; "14 the number asked for"
+abbrev pub naming : Case → ℕ → Refusal
+naming c number = cond (namesActive (c .grid) (c .slots) number) none (refusal 14 number)
+
+-- "Slices are judged 3, 7, 4, 5, 6, 9, 10; then, .. for a report 14."
+abbrev pub reportRefusal : Case → ℕ → Refusal
+reportRefusal c number = firstRefusal (checksOf c ++ (naming c number ∷ []))
+
+-- what stands beside a refusal
+abbrev pub noReport : Report
+noReport =
+    record {
+      «fresh_head» = zeroMetres;
+      «salt_head» = zeroMetres;
+      interface = zeroMetres;
+      «fresh_thickness» = zeroMetres;
+      «salt_thickness» = zeroMetres;
+    }
+
+abbrev pub telling : Refusal → Report → Answer
+telling r report = record { refusal = r; report = report }
+
+-- a refusal, or the report beside none; blocks are counted from 1 here and from 0 in the slots
+unfoldable pub reportAnswer : Case → ℕ → Answer
+reportAnswer c number =
+    let block = number - 1 in
+    let r = reportRefusal c number in
+    telling r (cond (eqb (r .number) 0) (reportOf (c .grid) (blockOf (c .slots) block) (topOf (c .grid) block)) noReport)
