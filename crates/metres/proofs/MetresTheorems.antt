@@ -13,7 +13,7 @@ use lib.IntN.{natAbs, negsuc, negℤ, pos, ℤ}
 use lib.Signed.{_<ℤ_, _≤ℤ_}
 use Rattle.whole.specs.Ranges.{between, inRange}
 use Rattle.whole.specs.Whole.{Abs, In}
-use Rattle.whole.proofs.OrderLaws.{in-abs, ≤ℤ-or-<}
+use Rattle.whole.proofs.OrderLaws.{≤ℤ-or-<}
 use Rattle.whole.proofs.WithinLaws.{in-ranged, range-in}
 use Rattle.slots.specs.Units.{mostLevel}
 use Rattle.slices.specs.Slices.{none, refusal}
@@ -28,12 +28,16 @@ use Rattle.metres.specs.Meaning.{BoundaryTwelve, Shows, Twelve, distance
 use Rattle.metres.specs.Metres.{isShown, isTaken, metresOf, mostShown, shown, shownOf, taken, takenOf, tickOf, ticksIn, zeroMetres}
 use Rattle.metres.proofs.AnswersLaws.{is-shown, refused-value, taken-value}
 use Rattle.metres.proofs.NearestLaws.{nearest-tick, tie-even}
-use Rattle.metres.proofs.ShownLaws.{below-digits, level-shown, metres-exact, metres-finite, metres-fit}
+use Rattle.metres.proofs.ShownLaws.{level-shown, metres-exact, metres-fit, value-finite}
 use Rattle.metres.proofs.TakenLaws.{tick-whole}
 use Rattle.metres.proofs.ValueLaws.{value-unique}
 
 not-zero : _≡_ {A = ℕ} 12 0 → ⊥
 not-zero h = omega arith
+
+one-or-other : {A : Type 0} (b : Bool) (x y : A) → (cond b x y ≡ x) ⊎ (cond b x y ≡ y)
+one-or-other true x y = inl refl
+one-or-other false x y = inr refl
 
 -- ---- shown
 
@@ -44,11 +48,7 @@ shown-told t h = sym (is-shown t (metresOf t) (in-ranged (between (negℤ (pos m
 -- A tick is shown, or refused with 12,
 pub shown-or-twelve : (t : ℤ) → (shownOf t ≡ shown none (metresOf t)) ⊎ (shownOf t ≡ shown (refusal 12 0) zeroMetres)
 unfolding shownOf
-shown-or-twelve t = go (isShown t)
-  where
-    go : (b : Bool) → let r = cond b (shown none (metresOf t)) (shown (refusal 12 0) zeroMetres) in (r ≡ shown none (metresOf t)) ⊎ (r ≡ shown (refusal 12 0) zeroMetres)
-    go true = inl refl
-    go false = inr refl
+shown-or-twelve t = one-or-other (isShown t) (shown none (metresOf t)) (shown (refusal 12 0) zeroMetres)
 
 -- and shown are exactly the ticks of less than 2⁵³ without sign.
 pub shown-exactly : (t : ℤ) → (shownOf t .refusal .number ≡ 0) ↔ Abs mostShown t
@@ -61,7 +61,7 @@ shown-exactly t = (go (isShown t) (range-in (between (negℤ (pos mostShown)) (p
 
 -- "A tick value is shown in metres as an exact double": the double has the tick's sign, and its value times 4,096 is the tick.
 pub shown-exact : (t : ℤ) → Abs mostShown t → Shows (shownOf t .metres) t
-shown-exact t h = rw (shown-told t h) (metres-exact t (below-digits (in-abs h)))
+shown-exact t h = rw (shown-told t h) (metres-exact t h)
 
 -- It is the only such double.
 pub shown-only : (t : ℤ) (x : Float) → Abs mostShown t → T (fits binary64 x) → Shows x t → x ≡ shownOf t .metres
@@ -72,11 +72,7 @@ shown-only t x h f v = value-unique x (shownOf t .metres) (negative t) (natAbs t
 -- A double is taken in as its tick, or refused with 12.
 pub taken-or-twelve : (most : ℤ) (x : Float) → (takenOf most x ≡ taken none (tickOf x)) ⊎ (takenOf most x ≡ taken (refusal 12 0) (pos 0))
 unfolding takenOf
-taken-or-twelve most x = go (isTaken most x)
-  where
-    go : (b : Bool) → let r = cond b (taken none (tickOf x)) (taken (refusal 12 0) (pos 0)) in (r ≡ taken none (tickOf x)) ⊎ (r ≡ taken (refusal 12 0) (pos 0))
-    go true = inl refl
-    go false = inr refl
+taken-or-twelve most x = one-or-other (isTaken most x) (taken none (tickOf x)) (taken (refusal 12 0) (pos 0))
 
 -- what was not refused
 taken-is : (most : ℤ) (x : Float) → takenOf most x .refusal .number ≡ 0 → takenOf most x ≡ taken none (tickOf x)
@@ -123,8 +119,9 @@ taken-in-range most x e = rw (ap (λ a. a .tick) (taken-is most x e)) (record { 
 -- "so showing a tick within ±4,194,304 and taking it in again changes nothing"; for a sea floor, one that is not above 0
 pub shown-again : (most t : ℤ) → Abs mostLevel t → t ≤ℤ most → takenOf most (shownOf t .metres) ≡ taken none t
 shown-again most t h l =
-    let e = tick-whole (shownOf t .metres) t (shown-exact t (level-shown h)) in
-    taken-value most (shownOf t .metres) (rw (shown-told t (level-shown h)) (metres-finite t (level-shown h))) (rw e (record { low = h .low; high = l })) ∙ ap (taken none) e
+    let v = shown-exact t (level-shown h) in
+    let e = tick-whole (shownOf t .metres) t v in
+    taken-value most (shownOf t .metres) (value-finite (shownOf t .metres) (negative t) (natAbs t) ticks v) (rw e (record { low = h .low; high = l })) ∙ ap (taken none) e
 
 -- No other tick is nearer than the one that a double is taken in as,
 pub taken-nearest : (most : ℤ) (x : Float) → takenOf most x .refusal .number ≡ 0 → (k : ℤ) → distanceOf x (takenOf most x .tick) ≤ distanceOf x k

@@ -19,9 +19,9 @@ use Rattle.slots.specs.Units.{mostLevel}
 use Rattle.metres.specs.Meaning.{Shows}
 use Rattle.metres.specs.Metres.{metresOf, mostShown}
 
--- up to 2⁵³ - 1 is below 2⁵³
-pub below-digits : {n : ℕ} → n ≤ mostShown → n < 2 ^ 53
-below-digits h = omega arith
+-- a tick that is shown has up to 53 digits
+below-digits : {t : ℤ} → Abs mostShown t → natAbs t < 2 ^ 53
+below-digits h = omega (arith, in-abs h)
 
 -- a level is a tick that is shown
 pub level-shown : {t : ℤ} → Abs mostLevel t → Abs mostShown t
@@ -36,20 +36,17 @@ quotient-exact s n h =
     round-exact binary64 s n 4096 n 1062 (zero-lt-suc 4095) h (lt-of-lt-of-le (shl-lt 53 1062 h) (pow-mono room))
     (ap (λ (x : ℕ). n * x) (pow-add 2 1062 12) ∙ sym (mul-assoc n (2 ^ 1062) (2 ^ 12)))
 
--- a tick's metres: finite, with the tick's sign, and in size the tick's over 4,096
-pub metres-exact : (t : ℤ) → natAbs t < 2 ^ 53 → Shows (metresOf t) t
+-- a tick's metres have the tick's sign, and are in size the tick's over 4,096
+pub metres-exact : (t : ℤ) → Abs mostShown t → Shows (metresOf t) t
 unfolding metresOf
-metres-exact (pos n) h = quotient-exact false n h
-metres-exact (negsuc n) h = quotient-exact true (suc n) h
+metres-exact (pos n) h = quotient-exact false n (below-digits h)
+metres-exact (negsuc n) h = quotient-exact true (suc n) (below-digits h)
 
--- and so a number
-pub metres-finite : (t : ℤ) → Abs mostShown t → T (finite (metresOf t))
-metres-finite t h = go (metresOf t) (metres-exact t (below-digits (in-abs h)))
-  where
-    go : (x : Float) → Shows x t → T (finite x)
-    go nan v = absurd v
-    go (inf s) v = absurd v
-    go (fin s m e) v = tt
+-- what has a value is a number
+pub value-finite : (x : Float) (s : Bool) (a c : ℕ) → HasValue x s a c → T (finite x)
+value-finite nan s a c v = absurd v
+value-finite (inf t) s a c v = absurd v
+value-finite (fin t m e) s a c v = tt
 
 -- ---- what the machine divides
 
@@ -72,22 +69,22 @@ divided (fin t m e) s n h =
     same true = refl
     same false = refl
 
-over-unit : (t : ℤ) → natAbs t < 2 ^ 53 → div binary64 (ofInt binary64 t) (fin false 1 (pos 12)) ≡ metresOf t
+over-unit : (t : ℤ) → Abs mostShown t → div binary64 (ofInt binary64 t) (fin false 1 (pos 12)) ≡ metresOf t
 unfolding ofInt metresOf
-over-unit (pos n) h = divided (round binary64 false n 1) false n (round-whole binary64 false n (le-of-lt h))
-over-unit (negsuc n) h = divided (round binary64 true (suc n) 1) true (suc n) (round-whole binary64 true (suc n) (le-of-lt h))
+over-unit (pos n) h = divided (round binary64 false n 1) false n (round-whole binary64 false n (le-of-lt (below-digits h)))
+over-unit (negsuc n) h = divided (round binary64 true (suc n) 1) true (suc n) (round-whole binary64 true (suc n) (le-of-lt (below-digits h)))
 
 -- t as a double, divided by 4096.0, where the machine reads t back as z
-pub metres-is : (t z : ℤ) → z ≡ t → natAbs t < 2 ^ 53 → div binary64 (ofInt binary64 z) (ofBits binary64 0x40b0_0000_0000_0000) ≡ metresOf t
+pub metres-is : (t z : ℤ) → z ≡ t → Abs mostShown t → div binary64 (ofInt binary64 z) (ofBits binary64 0x40b0_0000_0000_0000) ≡ metresOf t
 metres-is t z e h = ap (λ (y : ℤ). div binary64 (ofInt binary64 y) (ofBits binary64 0x40b0_0000_0000_0000)) e ∙ ap (λ (y : Float). div binary64 (ofInt binary64 t) y) unit-is ∙ over-unit t h
 
 -- and the cast of t loses nothing
-in-float : (t : ℤ) → natAbs t < 2 ^ 53 → T (inFloat binary64 t)
+in-float : (t : ℤ) → Abs mostShown t → T (inFloat binary64 t)
 unfolding inFloat
-in-float (pos n) h = le→leb n (2 ^ 53) (le-of-lt h)
-in-float (negsuc n) h = lt→ltb n (2 ^ 53) (le-of-lt h)
+in-float (pos n) h = le→leb n (2 ^ 53) (le-of-lt (below-digits h))
+in-float (negsuc n) h = lt→ltb n (2 ^ 53) (le-of-lt (below-digits h))
 
-pub castable : (t z : ℤ) → z ≡ t → natAbs t < 2 ^ 53 → T (inFloat binary64 z)
+pub castable : (t z : ℤ) → z ≡ t → Abs mostShown t → T (inFloat binary64 z)
 castable t z e h = subst (λ (y : ℤ). T (inFloat binary64 y)) (sym e) (in-float t h)
 
 -- ---- a tick's metres are a double

@@ -28,6 +28,7 @@ use Rattle.slots.specs.Units.{mostLevel}
 use Rattle.metres.specs.Meaning.{Shows, negative}
 use Rattle.metres.specs.Metres.{isTaken, signedBy, tickOf, ticksIn}
 use Rattle.metres.specs.Patterns.{digitsOf, far, fieldOf, near}
+use Rattle.metres.proofs.ShownLaws.{value-finite}
 
 -- ---- the size by a value
 
@@ -73,13 +74,11 @@ taken-finite most (fin t m e) h = refl
 
 -- ---- the size of q · 2^j units of 2^-1,074
 
-odd-finite : (s : Bool) (q j : ℕ) → T (finite (odd 53 s q j 1074))
-unfolding odd
-odd-finite s zero j = tt
-odd-finite s (suc q) j = tt
-
 value-of : (s : Bool) (q j : ℕ) → HasValue (odd 53 s q j 1074) s (q * 2 ^ j) (2 ^ 1074)
 value-of s q j = odd-sign 53 s q j 1074
+
+odd-finite : (s : Bool) (q j : ℕ) → T (finite (odd 53 s q j 1074))
+odd-finite s q j = value-finite (odd 53 s q j 1074) s (q * 2 ^ j) (2 ^ 1074) (value-of s q j)
 
 tiny : (s : Bool) (q j : ℕ) → q < 2 ^ 53 → j ≤ 1008 → ticksIn (odd 53 s q j 1074) ≡ 0
 tiny s q j Q J =

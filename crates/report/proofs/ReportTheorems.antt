@@ -7,7 +7,6 @@ use Prim.Native.Nat.{_-_, ℕ}
 use lib.IntN.{pos, ℤ}
 use borrow.Author.Tests.{eq-eqb}
 use Rattle.whole.specs.Whole.{Abs}
-use Rattle.whole.proofs.OrderLaws.{in-abs}
 use Rattle.grid.specs.Place.{topOf}
 use Rattle.slots.specs.declared.Block.{Block}
 use Rattle.slots.specs.Slots.{Ends, blockOf}
@@ -22,9 +21,9 @@ use Rattle.block.proofs.BlockLaws.{levels-levelled, thicknesses-thick}
 use Rattle.block.proofs.DensityLaws.{interface-in}
 use Rattle.block.proofs.FluidLaws.{new-heads-in}
 use Rattle.metres.specs.Meaning.{Shows}
-use Rattle.metres.specs.Metres.{metresOf, mostShown, taken, takenOf}
+use Rattle.metres.specs.Metres.{metresOf, taken, takenOf}
 use Rattle.metres.proofs.MetresTheorems.{shown-again, shown-told}
-use Rattle.metres.proofs.ShownLaws.{below-digits, level-shown, metres-exact}
+use Rattle.metres.proofs.ShownLaws.{level-shown, metres-exact}
 use Rattle.wellformed.specs.Limits.{checkedOf, checksOf}
 use Rattle.wellformed.proofs.LimitsLaws.{checked-stands}
 use Rattle.report.specs.declared.Answer.{Answer}
@@ -57,10 +56,7 @@ fourteen-asked c number e n = ap (λ a. a .refusal) (sym (fourteen c number e (g
 
 -- ---- what is reported
 
--- a tick's metres show it, and are taken in as it
-shows : {t : ℤ} → Abs mostShown t → Shows (metresOf t) t
-shows {t} h = metres-exact t (below-digits (in-abs h))
-
+-- a tick's metres are taken in as it
 again : (t : ℤ) → Abs mostLevel t → takenOf (pos mostLevel) (metresOf t) ≡ taken none t
 again t h = sym (ap (λ a. takenOf (pos mostLevel) (a .metres)) (shown-told t (level-shown h))) ∙ shown-again (pos mostLevel) t h (h .high)
 
@@ -98,10 +94,13 @@ module _ (c : Case) (number : ℕ) (e : reportAnswer c number .refusal .number �
       Shows (r .«fresh_head») (heads .fresh)
       × (Shows (r .«salt_head») (heads .salt) × (Shows (r .interface) (interfaceOf (c .grid) heads) × (Shows (r .«fresh_thickness») (waters .fresh) × Shows (r .«salt_thickness») (waters .salt))))
   report-exact = rw told (
-    shows (level-shown (heads-in .of-fresh)),
+    metres-exact (heads .fresh) (level-shown (heads-in .of-fresh)),
     (
-      shows (level-shown (heads-in .of-salt)),
-      (shows (interface-shown (interface-in (c .grid) heads (judged .termed) heads-in)), (shows (thickness-shown (waters-in .of-fresh)), shows (thickness-shown (waters-in .of-salt)))),
+      metres-exact (heads .salt) (level-shown (heads-in .of-salt)),
+      (
+        metres-exact (interfaceOf (c .grid) heads) (interface-shown (interface-in (c .grid) heads (judged .termed) heads-in)),
+        (metres-exact (waters .fresh) (thickness-shown (waters-in .of-fresh)), metres-exact (waters .salt) (thickness-shown (waters-in .of-salt))),
+      ),
     ),
   )
 
