@@ -12,7 +12,7 @@ use Rattle.whole.specs.Whole.{Abs}
 use Rattle.whole.proofs.RangeLaws.{leaf, ranges, within}
 use Rattle.whole.proofs.SumLaws.{only-abs, sum-in}
 use Rattle.grid.specs.Place.{Counted, blocksOf, previousOf, strideOf}
-use Rattle.grid.specs.Units.{above}
+use Rattle.grid.specs.Units.{above, mostBlocks}
 use Rattle.grid.proofs.PlaceLaws.{previous-is}
 use Rattle.slices.specs.Slices.{Case}
 use Rattle.block.specs.Fluids.{fresh, inFluid, salt}
@@ -24,7 +24,7 @@ use Rattle.books.specs.Bookkeeping.{booksOf, broughtOf}
 use Rattle.books.specs.Rows.{Row, filledOf, pairOf}
 use Rattle.books.proofs.CarriedLaws.{brought-in, brought-next}
 use Rattle.books.proofs.RowsLaws.{filled-row}
-use Rattle.books.proofs.TermsLaws.{own-boundary-in, own-pumped-in, own-recharge-in, own-storage-in}
+use Rattle.books.proofs.OwnLaws.{own-boundary-in, own-pumped-in, own-recharge-in, own-storage-in}
 use Rattle.balance.specs.Balance.{Bounded, balanceIn, balanceOf, balancesOf, flowsOf, mostBalance, throughOf}
 
 -- what the link that ends in a block brings is what the link of the block before brings, if one is there
@@ -85,6 +85,10 @@ row-bounded c formed row filled =
 
 pub filled-bounded : (c : Case) → WellFormed c → (row : List ℤ) → 2 * blocksOf (c .grid) ≤ length row → Bounded (blocksOf (c .grid)) (filledOf (blocksOf (c .grid)) (balancesOf c) row)
 filled-bounded c formed row h = row-bounded c formed (filledOf (blocksOf (c .grid)) (balancesOf c) row) (filled-row (blocksOf (c .grid)) (balancesOf c) row h)
+
+-- a row with room for the most blocks, filled with their balances
+pub filled-balanced : (c : Case) (row : List ℤ) {filled : List ℤ} → Counted (c .grid) → filled ≡ filledOf (blocksOf (c .grid)) (balancesOf c) row → 2 * mostBlocks ≤ length row → Row (blocksOf (c .grid)) (balancesOf c) filled
+filled-balanced c row counted e h = rw e (filled-row (blocksOf (c .grid)) (balancesOf c) row (omega (arith, h, counted .blocks-most)))
 
 pub pair-in : {n i : ℕ} {row : List ℤ} (fluid : ℕ) → Bounded n row → i < n → Abs mostBalance (inFluid (pairOf row i) fluid)
 pair-in {n} {i} {row} fluid b l = in-fluid-in (pairOf row i) fluid (b .each i l)

@@ -26,11 +26,11 @@ flowsOf g F i = sum 3 (λ d. throughOf g F d i)
 unfoldable pub balanceIn : Grid → Books → ℕ → ℤ
 balanceIn g F i = flowsOf g F i +ℤ F .own i .recharge +ℤ F .own i .boundary -ℤ F .own i .pumped -ℤ F .own i .storage
 
--- of a case, in one fluid; an inactive block has none
+-- the balance of a block of a case, in one fluid; an inactive block has none
 unfoldable pub balanceOf : Case → ℕ → ℕ → ℤ
 balanceOf c fluid i = only (activeOf (c .slots) i) (balanceIn (c .grid) (booksOf c fluid) i)
 
--- in both fluids
+-- its balances in both fluids
 abbrev pub balancesOf : Case → ℕ → Fluids
 balancesOf c i = fluidsOf (balanceOf c fresh i) (balanceOf c salt i)
 

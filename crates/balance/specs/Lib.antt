@@ -1,1 +1,2 @@
+-- The definitions of `balance`, for the crates above.
 pub mod Balance

@@ -10,7 +10,7 @@ ghost use Rattle.slices.specs.Slices.{caseOf};
 ghost use Rattle.wellformed.specs.Links.{activeOf};
 ghost use Rattle.wellformed.specs.Limits.{WellFormed};
 ghost use Rattle.books.specs.Rows.{filledOf};
-ghost use Rattle.books.specs.Blocks.{Watered};
+ghost use Rattle.books.specs.Waters.{Watered};
 ghost use Rattle.books.specs.Bookkeeping.{booksOf, broughtOf};
 ghost use Rattle.balance.specs.Balance.{throughOf, flowsOf, balanceIn, balancesOf};
 use block::Fluids;

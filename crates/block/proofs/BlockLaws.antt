@@ -7,12 +7,11 @@ use Prim.Native.Nat.{suc, zero, ℕ}
 use native.Mathlib.Omega.{arith}
 use lib.IntN.{_*ℤ_, _+ℤ_, _-ℤ_, negℤ, pos, ℤ}
 use lib.Signed.{_≤ℤ_, leZ-yes, ltZ, ≤ℤ-refl}
-use types.Kit.{some}
 use Rattle.whole.specs.Whole.{Abs, In, clampOf, cutOf, isZero, maxℤ, minℤ}
 use Rattle.whole.proofs.DivisionLaws.{cut-mono, cut-mul, cut-nonneg}
 use Rattle.whole.proofs.LinearLaws.{#, from1, from2, from3, linear, signed}
 use Rattle.whole.proofs.OrderLaws.{<ℤ-≤ℤ, clamp-above, clamp-below, maxℤ-l, maxℤ-r, maxℤ-≤, minℤ-r, mul-anti, mul-mono, mul-nonneg, one-least, zero-is, ≤ℤ-antisymm, ≤ℤ-or-<, ≤ℤ-trans}
-use Rattle.whole.proofs.RangeLaws.{high, leaf, low, lt-false, lt-true, ranges, within}
+use Rattle.whole.proofs.RangeLaws.{leaf, lt-false, lt-true, ranges, within}
 use Rattle.whole.proofs.SearchLaws.{holds}
 use Rattle.grid.specs.declared.Grid.{Grid}
 use Rattle.grid.specs.Judging.{Termed}
@@ -23,7 +22,7 @@ use Rattle.block.specs.declared.Fluids.{Fluids}
 use Rattle.block.specs.declared.geometry.Levels.{Levels}
 use Rattle.block.specs.Density.{interfaceOf}
 use Rattle.block.specs.Fluids.{EachIn, Thick, fluidsOf, inFluid, togetherOf}
-use Rattle.block.specs.Geometry.{Levelled, aquiferTopOf, hasTable, heldOf, kOf, levelsOf, levelsOn, saturatedTopOf, thicknessesOf}
+use Rattle.block.specs.Geometry.{Levelled, aquiferTopOf, hasWaterTable, heldOf, kOf, levelsOf, levelsOn, saturatedTopOf, thicknessesOf}
 use Rattle.block.specs.Storage.{storageOf, volumeOf}
 use Rattle.block.specs.Units.{Level, mostArea, mostFluidK, mostVolume}
 use Rattle.block.specs.Wells.{freshShareOf, isDry, lengthWithin, lengthsOf, sharesOf}
@@ -44,7 +43,7 @@ module _ (b : Block) (e : Ends b) where
   -- the saturated top lies from the base to the aquifer top
   pub saturated-above : (g : Grid) (top : Bool) (h : Fluids) → b .base ≤ℤ saturatedTopOf g b top h
   unfolding saturatedTopOf
-  saturated-above g top h = go (hasTable g top)
+  saturated-above g top h = go (hasWaterTable g top)
     where
       go : (t : Bool) → b .base ≤ℤ cond t (clampOf (b .base) (aquiferTopOf b) (h .fresh)) (aquiferTopOf b)
       go true = clamp-above (b .base) (aquiferTopOf b) (h .fresh)
@@ -52,7 +51,7 @@ module _ (b : Block) (e : Ends b) where
 
   pub saturated-below : (g : Grid) (top : Bool) (h : Fluids) → saturatedTopOf g b top h ≤ℤ aquiferTopOf b
   unfolding saturatedTopOf
-  saturated-below g top h = go (hasTable g top)
+  saturated-below g top h = go (hasWaterTable g top)
     where
       go : (t : Bool) → cond t (clampOf (b .base) (aquiferTopOf b) (h .fresh)) (aquiferTopOf b) ≤ℤ aquiferTopOf b
       go true = clamp-below (b .base) (aquiferTopOf b) (h .fresh) aquifer-top-above

@@ -1,5 +1,5 @@
--- Laws of one block, and worked numbers. They hold nothing to believe.
+-- Laws of one block. They hold nothing to believe.
 pub mod FluidLaws
 pub mod DensityLaws
 pub mod BlockLaws
-pub mod WorkedTheorems
+pub mod OutcomeTheorems

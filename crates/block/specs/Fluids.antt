@@ -12,15 +12,16 @@ fresh = 0
 abbrev pub salt : ℕ
 salt = 1
 
+-- a number for each fluid, fresh before salt
 abbrev pub fluidsOf : ℤ → ℤ → Fluids
 fluidsOf a b = record { fresh = a; salt = b }
 
--- the number for a fluid
+-- of two numbers the one for a fluid
 abbrev pub inFluid : Fluids → ℕ → ℤ
 inFluid f zero = f .fresh
 inFluid f (suc n) = f .salt
 
--- both together
+-- both numbers together
 abbrev pub togetherOf : Fluids → ℤ
 togetherOf f = f .fresh +ℤ f .salt
 

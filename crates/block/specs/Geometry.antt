@@ -1,4 +1,4 @@
--- One block (document 01): levels and thicknesses, in ticks, and its K in each fluid.
+-- One block (document 01): levels and thicknesses, in ticks, and its K in each fluid, in mm/day.
 use mathlib.Core.Bool.{Bool, _&&_, cond}
 use Prim.Native.Nat.{suc, zero, ℕ}
 use lib.Dec.{eqb}
@@ -17,13 +17,13 @@ use Rattle.block.specs.Units.{Level}
 unfoldable pub aquiferTopOf : Block → ℤ
 aquiferTopOf b = b .base +ℤ b .thickness
 
--- "in the top layer with flag 1"
-unfoldable pub hasTable : Grid → Bool → Bool
-hasTable g top = top && eqb (g .flag) 1
+-- a block has a water table: "in the top layer with flag 1"
+unfoldable pub hasWaterTable : Grid → Bool → Bool
+hasWaterTable g top = top && eqb (g .flag) 1
 
 -- "Saturated top U = aquifer top; in the top layer with flag 1 it is the lesser of aquifer top and Φf, but never below base."
 unfoldable pub saturatedTopOf : Grid → Block → Bool → Fluids → ℤ
-saturatedTopOf g b top h = cond (hasTable g top) (clampOf (b .base) (aquiferTopOf b) (h .fresh)) (aquiferTopOf b)
+saturatedTopOf g b top h = cond (hasWaterTable g top) (clampOf (b .base) (aquiferTopOf b) (h .fresh)) (aquiferTopOf b)
 
 -- "Z is ζ held between base and U."
 unfoldable pub heldOf : Grid → Block → Bool → Fluids → ℤ

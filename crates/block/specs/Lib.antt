@@ -1,3 +1,4 @@
+-- The definitions of `block`, for the crates above.
 pub mod Units
 pub mod Fluids
 pub mod Density

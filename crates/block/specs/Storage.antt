@@ -1,4 +1,4 @@
--- What a block stores (document 01, "One block").
+-- What a block stores (document 01, "One block"): volumes in litres, of an area in m² and a thickness in ticks, and rates in litres a day.
 use lib.IntN.{_*ℤ_, _-ℤ_, pos, ℤ}
 use Rattle.whole.specs.Whole.{cutOf, floorOf}
 use Rattle.grid.specs.declared.Grid.{Grid}

@@ -1,4 +1,4 @@
--- Numbers of the physics (document 01, "Units and ranges"), each by name. src/units.rt has the same names and numbers.
+-- Numbers of the physics (document 01, "Units and ranges"), each by name, and the greatest numbers that the rules give.
 use Prim.Native.Nat.{ℕ}
 use lib.IntN.{negℤ, pos, ℤ}
 use Rattle.whole.specs.Whole.{In}

@@ -1,4 +1,4 @@
--- Wells (document 01, "Leakage, river and sea").
+-- Wells (document 01, "Leakage, river and sea"): lengths of a screen in ticks, and what it takes in litres a day.
 use mathlib.Core.Bool.{Bool, _&&_, cond, not}
 use lib.IntN.{_*ℤ_, _-ℤ_, pos, ℤ}
 use lib.Signed.{ltZ}

@@ -1,5 +1,5 @@
 // The four rules that read δ, the ratio of the fresh water's weight to the difference of the two (document 01, "One block", "A lateral
-// face", "Leakage, river and sea"). No other file reads it.
+// face", "Leakage, river and sea"). No other rule reads it; grid's judging.rt asks its range.
 ghost use mathlib.Core.Path.{_≡_};
 ghost use lib.IntN.{pos};
 ghost use Rattle.whole.specs.Whole.{In, Abs};

@@ -7,7 +7,7 @@ ghost use Rattle.slots.specs.Slots.{Ends};
 ghost use Rattle.block.specs.Fluids.{Heads, Thick};
 ghost use Rattle.block.specs.Geometry.{
   aquiferTopOf,
-  hasTable,
+  hasWaterTable,
   saturatedTopOf,
   levelsOf,
   thicknessesOf,
@@ -40,8 +40,8 @@ pub fn aquifer_top(block: Block) -> i64
 }
 
 // Whether a block has a water table: "in the top layer with flag 1".
-pub fn has_table(g: Grid, top: bool) -> bool
-    ensures { λ r. ⌜ r ≡ hasTable g top ⌝ }
+pub fn has_water_table(g: Grid, top: bool) -> bool
+    ensures { λ r. ⌜ r ≡ hasWaterTable g top ⌝ }
 {
     if top { g.flag == 1 } else { false }
 }
@@ -52,13 +52,13 @@ fn saturated_top(g: Grid, block: Block, top: bool, heads: Fluids) -> i64
     requires { ⌜ Heads heads ⌝ }
     ensures { λ r. ⌜ r ≡ saturatedTopOf g block top heads ⌝ }
 {
-    if has_table(g, top) {
+    if has_water_table(g, top) {
         return clamp(heads.fresh, block.base, aquifer_top(block));
     }
     aquifer_top(block)
 }
 
-// Base, held interface and saturated top of a block, by its old or its new heads. Inner: the terms, slots and heads are in range.
+// Base, held interface and saturated top of a block, ticks, by its old or its new heads. Inner: the terms, slots and heads are in range.
 pub fn levels_of(g: Grid, block: Block, top: bool, heads: Fluids) -> Levels
     requires { ⌜ Termed g ⌝ }
     requires { ⌜ Ends block ⌝ }

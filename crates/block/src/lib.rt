@@ -1,5 +1,5 @@
-// One block (document 01, "One block" and "Wells"): the rules that read the weights of the waters, the levels and thicknesses of both
-// fluids, storage, and wells. Old and new heads go through the same functions.
+// One block (document 01, "One block"; its wells are in "Leakage, river and sea"): the rules that read the weights of the waters, the levels
+// and thicknesses of both fluids, storage, and wells. Old and new heads go through the same functions.
 pub mod density;
 pub mod geometry;
 pub mod storage;
@@ -11,7 +11,7 @@ ghost use Rattle.block.specs.Fluids.{inFluid, togetherOf, oldHeads, newH
 use slots::Block;
 use units::FRESH;
 
-// A number for each fluid: heads or thicknesses in ticks, litres a day.
+// A number for each fluid: heads, thicknesses or lengths in ticks, shares of a well or balances in litres a day.
 pub struct Fluids {
     pub fresh: i64,
     pub salt: i64,

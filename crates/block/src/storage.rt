@@ -24,7 +24,7 @@ fn volume(block: Block, area: i64, thickness: i64) -> i64
     floor_div(block.porosity * area * thickness, TICKS)
 }
 
-// "Storage rate = cut((new volume - old volume) / step)", litres a day, of a fluid's two thicknesses in ticks.
+// "Storage rate = cut((new volume - old volume) / step)", litres a day, of an area in m² and a fluid's two thicknesses in ticks.
 // Inner: terms, slots, area and thicknesses are in range.
 pub fn storage(g: Grid, block: Block, area: i64, new: i64, old: i64) -> i64
     requires { ⌜ Termed g ⌝ }

@@ -22,7 +22,7 @@ use Rattle.flow.proofs.LeakageLaws.{lowermost-is, uppermost-is}
 use Rattle.wellformed.specs.Links.{activeOf, liveOf}
 use Rattle.wellformed.specs.Widths.{faceOf}
 use Rattle.wellformed.proofs.LinksLaws.{joined-live}
-use Rattle.books.specs.Blocks.{watersOf}
+use Rattle.books.specs.Waters.{watersOf}
 use Rattle.books.specs.Bookkeeping.{booksOf, broughtOf}
 use Rattle.books.specs.Links.{behindAt, lateralAt, leakageAt, namedOf, tipBehindOf}
 use Rattle.books.proofs.CarriedLaws.{brought-live, carried-lateral, counts-lateral}

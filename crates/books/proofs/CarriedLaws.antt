@@ -15,32 +15,32 @@ use Rattle.whole.proofs.SumLaws.{only-abs, only-zero}
 use Rattle.grid.specs.declared.Grid.{Grid}
 use Rattle.grid.specs.declared.place.Neighbour.{Neighbour}
 use Rattle.grid.specs.declared.place.Neighbour.the-variants.{At, Outside}
-use Rattle.grid.specs.Place.{behindOf, blocksOf, nextOf, placeOf, strideOf, there}
+use Rattle.grid.specs.Place.{behindOf, blocksOf, nextOf, placeOf, strideOf}
 use Rattle.grid.specs.Units.{above, nextRow}
-use Rattle.grid.proofs.PlaceLaws.{behind-inside, next-inside}
+use Rattle.grid.proofs.PlaceLaws.{behind-inside}
 use Rattle.slots.specs.Slots.{blockOf}
 use Rattle.slices.specs.Slices.{Case, Judged, mostWidth}
-use Rattle.block.specs.Fluids.{fresh, newHeads}
+use Rattle.block.specs.Fluids.{newHeads}
 use Rattle.block.specs.Geometry.{aquiferTopOf}
 use Rattle.block.proofs.BlockLaws.{aquifer-top-in, k-in-range}
 use Rattle.block.proofs.FluidLaws.{in-fluid-in, new-heads-in}
 use Rattle.flow.specs.declared.lateral.Behind.{Behind}
 use Rattle.flow.specs.Lateral.{BehindIn, SideIn, faceConductanceOf}
-use Rattle.flow.specs.Leakage.{WatersIn}
+use Rattle.flow.specs.Leakage.{LeakageSideIn}
 use Rattle.flow.specs.Litres.{mostConductance, mostFlow, overAreaOf}
 use Rattle.flow.proofs.LateralLaws.{lateral-in}
 use Rattle.flow.proofs.LeakageLaws.{leakage-in}
 use Rattle.flow.proofs.LitresLaws.{over-area-in}
-use Rattle.wellformed.specs.Limits.{WellFormed, lowOf}
+use Rattle.wellformed.specs.Limits.{WellFormed, blockIn}
 use Rattle.wellformed.specs.Links.{activeOf, liveOf}
 use Rattle.wellformed.specs.Widths.{Placed, alongOf, areaOf, faceOf}
 use Rattle.wellformed.proofs.LimitsLaws.{face-passes}
-use Rattle.wellformed.proofs.LinksLaws.{live-high, live-low, live-next, outside-dead}
+use Rattle.wellformed.proofs.LinksLaws.{live-high, live-low, live-next, outside-dead, live-inside}
 use Rattle.wellformed.proofs.WidthsLaws.{area-in, face-in, placed}
-use Rattle.books.specs.Blocks.{Slotted, watersOf}
+use Rattle.books.specs.Waters.{Slotted, watersOf}
 use Rattle.books.specs.Bookkeeping.{booksOf, broughtOf}
-use Rattle.books.specs.Links.{behindAt, carriedOf, countsOf, lateralAt, leakageAt, nobody, sideOf, tipBehindOf, watersAt}
-use Rattle.books.proofs.BlocksLaws.{active-ends, slotted, waters-thick, waters-within}
+use Rattle.books.specs.Links.{behindAt, carriedOf, countsOf, lateralAt, leakageAt, nobody, sideOf, tipBehindOf, leakageSideAt}
+use Rattle.books.proofs.WatersLaws.{active-ends, slotted, waters-thick, waters-within}
 
 -- ---- one side of a link
 
@@ -54,7 +54,7 @@ side-in g slots s fluid i l a =
       head = in-fluid-in (newHeads (blockOf slots i)) fluid (new-heads-in (blockOf slots i) (active .ends));
     }
 
-pub waters-in : (g : Grid) (slots : List ℤ) → Slotted g slots → (i : ℕ) → i < blocksOf g → activeOf slots i ≡ true → WatersIn (watersAt g slots i)
+pub waters-in : (g : Grid) (slots : List ℤ) → Slotted g slots → (i : ℕ) → i < blocksOf g → activeOf slots i ≡ true → LeakageSideIn (leakageSideAt g slots i)
 waters-in g slots s i l a = record { heads = new-heads-in (blockOf slots i) (active-ends g slots s i l a); thickness = waters-thick g slots s i l }
 
 -- ---- the block behind a tip
@@ -98,8 +98,8 @@ module _ (c : Case) (formed : WellFormed c) (fluid d i : ℕ) (l : i < blocksOf 
   slots-in : Slotted (c .grid) (c .slots)
   slots-in = slotted c (formed .judged)
 
-  pub far-inside : i + strideOf (c .grid) d < blocksOf (c .grid)
-  far-inside = next-inside (c .grid) (formed .judged .counted) d i l (live-next (c .grid) (c .slots) d i live)
+  far-inside : i + strideOf (c .grid) d < blocksOf (c .grid)
+  far-inside = live-inside (c .grid) (c .slots) d i live (formed .judged .counted) l
 
   low-active : activeOf (c .slots) i ≡ true
   low-active = true-is (live-low (c .grid) (c .slots) d i live)
@@ -129,10 +129,10 @@ module _ (c : Case) (formed : WellFormed c) (fluid d i : ℕ) (l : i < blocksOf 
       lateral-in (faceOf c d i) low high (tipBehindOf c fluid d i (low .thickness) (high .thickness)) (face-in c (formed .judged) i l d h (live-next (c .grid) (c .slots) d i live)) low-side-in high-side-in q (passes h (tipBehindOf c fluid d i (low .thickness) (high .thickness)) q)
 
 module _ (c : Case) (formed : WellFormed c) (i : ℕ) (l : i < blocksOf (c .grid)) (live : T (liveOf (c .grid) (c .slots) above i)) where
-  pub leakage-conductance-in : In (pos 0) (pos mostConductance) (overAreaOf (lowOf c i .leakance) (areaOf c i))
+  pub leakage-conductance-in : In (pos 0) (pos mostConductance) (overAreaOf (blockIn c i .leakance) (areaOf c i))
   leakage-conductance-in =
       let ends = active-ends (c .grid) (c .slots) (slotted c (formed .judged)) i l (true-is (live-low (c .grid) (c .slots) above i live)) in
-      record { low = over-area-in (lowOf c i .leakance) (areaOf c i) (ends .leakance) (area-in (placed c (formed .judged) i l)) .low; high = formed .leakage i l live }
+      record { low = over-area-in (blockIn c i .leakance) (areaOf c i) (ends .leakance) (area-in (placed c (formed .judged) i l)) .low; high = formed .leakage i l live }
 
   leakage-at-in : Abs mostFlow (leakageAt c i)
   unfolding leakageAt
@@ -140,10 +140,10 @@ module _ (c : Case) (formed : WellFormed c) (i : ℕ) (l : i < blocksOf (c .grid
       let s = slotted c (formed .judged) in
       let low = true-is (live-low (c .grid) (c .slots) above i live) in
       let upper = i + strideOf (c .grid) above in
-      leakage-in (c .grid) (overAreaOf (lowOf c i .leakance) (areaOf c i)) (watersAt (c .grid) (c .slots) i) (watersAt (c .grid) (c .slots) upper) (aquiferTopOf (lowOf c i)) (s .termed) leakage-conductance-in
+      leakage-in (c .grid) (overAreaOf (blockIn c i .leakance) (areaOf c i)) (leakageSideAt (c .grid) (c .slots) i) (leakageSideAt (c .grid) (c .slots) upper) (aquiferTopOf (blockIn c i)) (s .termed) leakage-conductance-in
       (waters-in (c .grid) (c .slots) s i l low)
-      (waters-in (c .grid) (c .slots) s upper (far-inside c formed fresh above i l live) (true-is (live-high (c .grid) (c .slots) above i live)))
-      (aquifer-top-in (lowOf c i) (active-ends (c .grid) (c .slots) s i l low))
+      (waters-in (c .grid) (c .slots) s upper (live-inside (c .grid) (c .slots) above i live (formed .judged .counted) l) (true-is (live-high (c .grid) (c .slots) above i live)))
+      (aquifer-top-in (blockIn c i) (active-ends (c .grid) (c .slots) s i l low))
 
 pub carried-in : (c : Case) → WellFormed c → (fluid d i : ℕ) → d ≤ above → i < blocksOf (c .grid) → T (liveOf (c .grid) (c .slots) d i) → Abs mostFlow (carriedOf c fluid d i)
 carried-in c formed fluid zero i h l t = lateral-at-in c formed fluid zero i l t (omega arith)

@@ -1,6 +1,6 @@
 -- Rows: what is put in is there, and a row that was filled holds what it was filled with. Assumes nothing.
 use mathlib.Core.List.{List}
-use mathlib.Core.Path.{_∙_, _≡_, refl}
+use mathlib.Core.Path.{_∙_, _≡_, refl, sym}
 use Prim.Native.Nat.{_*_, _+_, _<_, _≤_, suc, zero, ℕ}
 use native.Mathlib.Decide.{ℕ-discrete}
 use native.Mathlib.Numerals.{add-one}
@@ -39,6 +39,10 @@ filled-start f row = refl
 pub filled-more : (n : ℕ) (f : ℕ → Fluids) (row : List ℤ) → filledOf (n + 1) f row ≡ putOf (filledOf n f row) n (f n)
 unfolding filledOf
 filled-more n f row = rw add-one
+
+-- a turn of a loop that fills a row
+pub filled-turn : (n : ℕ) (f : ℕ → Fluids) (row₀ : List ℤ) {row next : List ℤ} {two : Fluids} → row ≡ filledOf n f row₀ → two ≡ f n → next ≡ putOf row n two → next ≡ filledOf (n + 1) f row₀
+filled-turn n f row₀ e h p = p ∙ (λ i. putOf (e i) n (h i)) ∙ sym (filled-more n f row₀)
 
 pub filled-length : (n : ℕ) (f : ℕ → Fluids) (row : List ℤ) → length (filledOf n f row) ≡ length row
 unfolding filledOf

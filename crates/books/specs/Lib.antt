@@ -1,5 +1,6 @@
+-- The definitions of `books`, for the crates above.
 pub mod Rows
-pub mod Blocks
+pub mod Waters
 pub mod Links
-pub mod Terms
+pub mod Own
 pub mod Bookkeeping

@@ -17,15 +17,15 @@ use Rattle.block.specs.Fluids.{inFluid, newHeads}
 use Rattle.block.specs.Geometry.{aquiferTopOf, kOf}
 use Rattle.flow.specs.declared.lateral.Behind.{Behind}
 use Rattle.flow.specs.declared.lateral.Side.{Side}
-use Rattle.flow.specs.declared.leakage.Waters.{Waters}
+use Rattle.flow.specs.declared.leakage.LeakageSide.{LeakageSide}
 use Rattle.flow.specs.Lateral.{lateralOf}
 use Rattle.flow.specs.Leakage.{leakageOf, lowermostOf, uppermostOf}
 use Rattle.flow.specs.Litres.{overAreaOf}
-use Rattle.wellformed.specs.Limits.{lowOf}
+use Rattle.wellformed.specs.Limits.{blockIn}
 use Rattle.wellformed.specs.Widths.{alongOf, areaOf, faceOf}
-use Rattle.books.specs.Blocks.{watersOf}
+use Rattle.books.specs.Waters.{watersOf}
 
--- K, thickness and head of a fluid in a block
+-- K (mm/day), thickness and head (ticks) of a fluid in a block
 unfoldable pub sideOf : Grid → List ℤ → ℕ → ℕ → Side
 sideOf g slots fluid i =
     record {
@@ -58,18 +58,18 @@ lateralAt c fluid d i =
     lateralOf (faceOf c d i) a b (tipBehindOf c fluid d i (a .thickness) (b .thickness))
 
 -- what leakage sees of a block
-abbrev pub watersAt : Grid → List ℤ → ℕ → Waters
-watersAt g slots i = record { heads = newHeads (blockOf slots i); thickness = watersOf g slots i }
+abbrev pub leakageSideAt : Grid → List ℤ → ℕ → LeakageSide
+leakageSideAt g slots i = record { heads = newHeads (blockOf slots i); thickness = watersOf g slots i }
 
 -- "Leakage joins a block and the one directly above": "C = floor(leakance·area/1,000), flow = cut(C·difference/4,096)", "at the lower
 -- block's top"
 unfoldable pub leakageAt : Case → ℕ → ℤ
 leakageAt c i =
-    leakageOf (c .grid) (overAreaOf (lowOf c i .leakance) (areaOf c i)) (watersAt (c .grid) (c .slots) i)
-    (watersAt (c .grid) (c .slots) (i + strideOf (c .grid) above))
-    (aquiferTopOf (lowOf c i))
+    leakageOf (c .grid) (overAreaOf (blockIn c i .leakance) (areaOf c i)) (leakageSideAt (c .grid) (c .slots) i)
+    (leakageSideAt (c .grid) (c .slots) (i + strideOf (c .grid) above))
+    (aquiferTopOf (blockIn c i))
 
--- by axis: two lateral faces, in the fluid itself, and the leakage, whatever the fluid
+-- what a link carries, by its axis: two lateral faces, in the fluid itself, and the leakage, whatever the fluid
 abbrev pub carriedOf : Case → ℕ → ℕ → ℕ → ℤ
 carriedOf c fluid zero i = lateralAt c fluid zero i
 carriedOf c fluid (suc zero) i = lateralAt c fluid (suc zero) i

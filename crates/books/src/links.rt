@@ -8,7 +8,7 @@ ghost use Rattle.grid.specs.Units.{above, nextRow};
 ghost use Rattle.slices.specs.Slices.{caseOf};
 ghost use Rattle.wellformed.specs.Links.{activeOf, liveOf};
 ghost use Rattle.wellformed.specs.Limits.{WellFormed};
-ghost use Rattle.books.specs.Blocks.{Slotted, Watered};
+ghost use Rattle.books.specs.Waters.{Slotted, Watered};
 ghost use Rattle.books.specs.Links.{
   sideOf,
   behindAt,
@@ -28,7 +28,7 @@ use block::new_heads;
 use flow::lateral::Behind;
 use flow::lateral::Side;
 use flow::lateral::lateral;
-use flow::leakage::Waters;
+use flow::leakage::LeakageSide;
 use flow::leakage::leakage;
 use flow::leakage::lowermost;
 use flow::leakage::uppermost;
@@ -46,13 +46,14 @@ use wellformed::widths::along;
 use wellformed::widths::area;
 use wellformed::widths::face;
 
+// Where no block stands behind a tip: its thickness is 0.
 const NOBODY: Behind = Behind {
     width: 0,
     thickness: 0,
 };
 
-// K, thickness and head of a fluid in an active block. Inner: the slots are in range, the row holds their thicknesses, and the block is
-// inside.
+// K (mm/day), thickness and head (ticks) of a fluid in an active block. Inner: the slots are in range, the row holds their thicknesses, and
+// the block is inside.
 fn side(g: Grid, slots: &[i64], waters: &[i64], block: usize, fluid: usize) -> Side
     requires { ⌜ Slotted g (now slots) ⌝ }
     requires { ⌜ Watered g (now slots) (now waters) ⌝ }
@@ -186,11 +187,11 @@ fn leakage_flow(
     let own = load(slots, block);
     let conductance = over_area(own.leakance, area(columns, rows, place));
     let upper = block + stride(g, ABOVE);
-    let below = Waters {
+    let below = LeakageSide {
         heads: new_heads(own),
         thickness: pair(waters, block),
     };
-    let above = Waters {
+    let above = LeakageSide {
         heads: new_heads(load(slots, upper)),
         thickness: pair(waters, upper),
     };

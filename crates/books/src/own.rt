@@ -1,4 +1,4 @@
-// What a block has of its own in a fluid, litres a day (document 01, "Leakage, river and sea", "Wells", "One block").
+// What a block has of its own in a fluid, litres a day (document 01, "Leakage, river and sea", "One block").
 ghost use mathlib.Core.Path.{_≡_};
 ghost use mathlib.Core.Bool.{true};
 ghost use Prim.Native.Nat.{_<_};
@@ -16,8 +16,8 @@ ghost use Rattle.block.specs.Storage.{storageOf};
 ghost use Rattle.block.specs.Wells.{lengthsOf, sharesOf};
 ghost use Rattle.wellformed.specs.Links.{activeOf};
 ghost use Rattle.wellformed.specs.Limits.{WellFormed};
-ghost use Rattle.books.specs.Blocks.{Watered};
-ghost use Rattle.books.specs.Terms.{ownOf, isKind, fixingOf, fixedOf};
+ghost use Rattle.books.specs.Waters.{Watered};
+ghost use Rattle.books.specs.Own.{ownOf, isKind, fixingOf, fixedOf};
 use super::rows::pair;
 use super::waters::lengths_on;
 use block::Fluids;
@@ -39,7 +39,7 @@ use slots::load;
 use wellformed::widths::area;
 use whole::is_zero;
 
-// A block's own terms in one fluid: what recharge and boundary bring, what wells take, and what goes into storage.
+// A block's own terms in one fluid, litres a day: what recharge and boundary bring, what wells take, and what goes into storage.
 pub struct Own {
     pub recharge: i64,
     pub boundary: i64,
@@ -76,7 +76,7 @@ fn stored(g: Grid, block: Block, top: bool, over: i64, waters: Fluids, fluid: us
     )
 }
 
-// A block's own terms in a fluid. Inner: the case is well formed, the row holds its thicknesses, and the block is inside and active, at its
+// A block's own terms in a fluid, litres a day. Inner: the case is well formed, the row holds its thicknesses, and the block is inside and active, at its
 // place.
 pub fn own_terms(
     g: Grid,

@@ -8,7 +8,7 @@ ghost use Rattle.block.specs.Fluids.{Thick};
 ghost use Rattle.block.specs.Geometry.{levelsOn, Levelled};
 ghost use Rattle.block.specs.Wells.{lengthsOf};
 ghost use Rattle.books.specs.Rows.{filledOf};
-ghost use Rattle.books.specs.Blocks.{watersOf, dryAt, Slotted, Watered};
+ghost use Rattle.books.specs.Waters.{watersOf, dryAt, Slotted, Watered};
 use super::rows::pair;
 use super::rows::put;
 use block::Fluids;
@@ -27,7 +27,7 @@ use slots::load;
 
 // The thickness of each fluid in a block by its new heads, ticks; none in an inactive one. Inner: the slots are in range and the block is
 // inside.
-pub fn waters_of(g: Grid, slots: &[i64], block: usize) -> Fluids
+fn waters_of(g: Grid, slots: &[i64], block: usize) -> Fluids
     requires { ⌜ Slotted g (now slots) ⌝ }
     requires { ⌜ block < blocksOf g ⌝ }
     ensures { λ r. ⌜ r ≡ watersOf g (now (slots .entry)) block ⌝ }

@@ -22,7 +22,7 @@ use Rattle.zone.specs.Table.{linesBy}
 use Rattle.zone.specs.Zones.{markedOf}
 use Rattle.zone.proofs.LinesLaws.{lines-same}
 use Rattle.budget.specs.Answers.{eighteenOf, everywhere, markOf, marksOf, readOf, refusing, tabled}
-use Rattle.budget.specs.Tables.{flatOf, rowOf, tableTo}
+use Rattle.budget.specs.Table.{flatOf, rowOf, tableTo}
 
 -- ---- marks put in
 

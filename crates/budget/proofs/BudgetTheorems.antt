@@ -1,8 +1,8 @@
--- What the tables that a client is answered say (demand 3; document 01, "Balance, verdict, table"). Assumes nothing.
+-- What the tables that a client is answered say (the client's demand 3; document 01, "Balance, verdict, table"). Assumes nothing.
 use mathlib.Core.Bool.{Bool, false, not, true}
 use mathlib.Core.List.{List}
 use mathlib.Core.Logic.{_↔_}
-use mathlib.Core.Path.{_∙_, _≡_, ap, refl, sym}
+use mathlib.Core.Path.{_≡_, ap, refl}
 use Prim.Native.Nat.{_*_, _<_, _≤_, suc, zero, ℕ}
 use native.Mathlib.Omega.{arith}
 use lib.Dec.{T, leb→le, le→leb}
@@ -22,14 +22,14 @@ use Rattle.block.specs.Fluids.{fresh, salt}
 use Rattle.wellformed.specs.Limits.{checkedOf}
 use Rattle.wellformed.specs.Links.{activeOf}
 use Rattle.wellformed.proofs.LimitsLaws.{checked-stands}
-use Rattle.books.specs.Blocks.{dryAt}
+use Rattle.books.specs.Waters.{dryAt}
 use Rattle.books.specs.Bookkeeping.{booksOf}
-use Rattle.books.specs.Terms.{fixedOf}
+use Rattle.books.specs.Own.{fixedOf}
 use Rattle.balance.specs.Balance.{balanceIn, balancesOf}
 use Rattle.balance.proofs.BalanceLaws.{balance-active, balance-in-fluid}
 use Rattle.verdict.specs.Acceptance.{Accepted, Wet}
 use Rattle.verdict.specs.Places.{freeAt, sizeOf}
-use Rattle.verdict.specs.Ruling.{answerOf}
+use Rattle.verdict.specs.Ruling.{verdictAnswer}
 use Rattle.verdict.proofs.VerdictTheorems.{slices-accepted-exactly}
 use Rattle.zone.specs.Accounts.{Adds, Apart, Closes, freeIn, joined}
 use Rattle.zone.specs.Table.{linesOf}
@@ -159,24 +159,10 @@ free-within c accepted z fluid l i k free =
     (rw (← balance-active c fluid i (true-is active), ← balance-in-fluid c fluid i l) within)
 
 -- Where heads are accepted, the error is at most the tolerance times the count of the zone's active blocks that are free in that fluid.
-pub error-at-most : (c : Case) (z : ℕ → Bool) (a : Answer) → Tells c z a → answerOf c .verdict .code ≡ 0
+pub error-at-most : (c : Case) (z : ℕ → Bool) (a : Answer) → Tells c z a → verdictAnswer c .verdict .code ≡ 0
     → (fluid : ℕ) → fluid < 2 → sizeOf (readOf a fluid .error) ≤ℤ (c .grid .tolerance *ℤ pos (count (blocksOf (c .grid)) (freeIn (c .slots) (booksOf c fluid) z)))
 error-at-most c z a t v fluid l =
     let accepted = slices-accepted-exactly c (t .checked) .0 v in
     rw (t .lines fluid l)
     (at-most-size (linesOf c z fluid .error) (c .grid .tolerance) _ (checked-stands c (t .checked) .judged .termed .tolerance .low)
     (error-bounded (c .grid) (c .slots) (booksOf c fluid) z (natAbs (c .grid .tolerance)) (free-within c accepted z fluid l)))
-
--- ---- one outcome
-
--- Two answers that the contract permits are equal, refusals too: of a zone by its marks,
-pub one-table : (c : Case) (marks : List ℤ) (r s : Answer) → r ≡ zoneAnswer c marks → s ≡ zoneAnswer c marks → r ≡ s
-one-table c marks r s e f = e ∙ sym f
-
--- of a layer,
-pub one-layer-table : (c : Case) (layer : ℕ) (r s : Answer) → r ≡ layerAnswer c layer → s ≡ layerAnswer c layer → r ≡ s
-one-layer-table c layer r s e f = e ∙ sym f
-
--- and of the whole.
-pub one-whole-table : (c : Case) (r s : Answer) → r ≡ wholeAnswer c → s ≡ wholeAnswer c → r ≡ s
-one-whole-table c r s e f = e ∙ sym f

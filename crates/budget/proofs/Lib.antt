@@ -4,3 +4,4 @@ pub mod RefusalLaws
 pub mod AnswersLaws
 pub mod BudgetTheorems
 pub mod WorkedTheorems
+pub mod OutcomeTheorems

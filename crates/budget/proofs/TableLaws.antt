@@ -2,7 +2,7 @@
 use mathlib.Core.Bool.{Bool, true}
 use mathlib.Core.List.{List, [], _++_, _∷_, append-nil}
 use mathlib.Core.Path.{_∙_, _≡_, ap, refl, subst}
-use Prim.Native.Nat.{_+_, _<_, _≤_, one, suc, zero, ℕ}
+use Prim.Native.Nat.{_+_, _<_, _≤_, suc, zero, ℕ}
 use native.Mathlib.Nat.{zero-add}
 use native.Mathlib.Numerals.{add-one}
 use native.Mathlib.Omega.{arith}
@@ -12,7 +12,7 @@ use lib.ListN.{drop, drop-of-length-le, getD, length, length-append, length-drop
 use lib.Seq.{paste, paste-suc, take-all, take-at}
 use Rattle.whole.specs.Sum.{sum}
 use Rattle.whole.specs.Whole.{Abs}
-use Rattle.whole.proofs.OrderLaws.{abs-in}
+use Rattle.whole.proofs.OrderLaws.{abs-zero}
 use Rattle.whole.proofs.RangeLaws.{leaf, ranges, within}
 use Rattle.whole.proofs.SumLaws.{sum-in, sum-more}
 use Rattle.grid.specs.Place.{blocksOf}
@@ -25,7 +25,7 @@ use Rattle.balance.specs.Balance.{mostBalance}
 use Rattle.zone.specs.declared.lines.Lines.{Lines}
 use Rattle.zone.specs.Table.{termsOf, totalsOf}
 use Rattle.zone.proofs.TermLaws.{Within, terms-in}
-use Rattle.budget.specs.Tables.{addRow, addTable, entry, mostLine, rowOf, rowsOf, shareOf, tableTo}
+use Rattle.budget.specs.Table.{addRow, addTable, entry, mostLine, rowOf, rowsOf, shareOf, tableTo}
 
 -- ---- two rows added
 
@@ -97,12 +97,9 @@ AllIn : ℕ → List ℤ → Type 0
 AllIn most [] = T true
 AllIn most (x ∷ xs) = Abs most x × AllIn most xs
 
-nothing-in : (most : ℕ) → Abs most (pos 0)
-nothing-in most = abs-in {m = most} {z = pos 0} (omega arith)
-
 all-in : (most : ℕ) (xs : List ℤ) → AllIn most xs → (k : ℕ) → Abs most (getD xs k (pos 0))
 unfolding AllIn
-all-in most [] h k = nothing-in most
+all-in most [] h k = abs-zero most
 all-in most (x ∷ xs) h zero = h .0
 all-in most (x ∷ xs) h (suc k) = all-in most xs (h .1) k
 
@@ -115,7 +112,7 @@ row-in most l h =
 entry-in : (most : ℕ) (f : ℕ → Lines) → ((fluid : ℕ) → Within most (f fluid)) → (fluid line : ℕ) → Abs most (entry (rowsOf f) fluid line)
 entry-in most f h zero line = row-in most (f fresh) (h fresh) line
 entry-in most f h (suc zero) line = row-in most (f salt) (h salt) line
-entry-in most f h (suc (suc fluid)) line = nothing-in most
+entry-in most f h (suc (suc fluid)) line = abs-zero most
 
 totals-in : (n : ℕ) (f : ℕ → Lines) → n ≤ mostBlocks → ((i : ℕ) → i < n → Within mostBalance (f i)) → Within mostLine (totalsOf n f)
 unfolding totalsOf

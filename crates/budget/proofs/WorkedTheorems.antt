@@ -14,7 +14,7 @@ use Rattle.slots.specs.Slots.{slotsAt}
 use Rattle.slices.specs.Slices.{Case, caseOf, contentsOf, faultOf, firstRefusal, none, orElse, roomHolds, shapeOf, widthsHold}
 use Rattle.slices.proofs.WorkedTheorems.{printedCase}
 use Rattle.block.specs.Density.{freshEquivalentOf, interfaceOf, saltKOf, seaHeadOf}
-use Rattle.block.specs.Geometry.{aquiferTopOf, hasTable, heldOf, levelsOf, saturatedTopOf, thicknessesOf}
+use Rattle.block.specs.Geometry.{aquiferTopOf, hasWaterTable, heldOf, levelsOf, saturatedTopOf, thicknessesOf}
 use Rattle.block.specs.Storage.{storageOf, volumeOf}
 use Rattle.block.specs.Wells.{freshShareOf, isDry, lengthWithin, lengthsOf, sharesOf}
 use Rattle.flow.specs.Boundary.{belowTop, boundaryHeadOf, boundaryOf, exchangeOf, gainOf, rechargeOf}
@@ -24,10 +24,10 @@ use Rattle.flow.specs.Litres.{leavingOf, litresOf, overAreaOf}
 use Rattle.wellformed.specs.Limits.{aboveExceeds, atFault, blockExceeds, boundaryExceeds, eitherExceeds, faceExceeds, firstAtFault, greatestOf, limitsOf, overlaps}
 use Rattle.wellformed.specs.Links.{liveOf}
 use Rattle.wellformed.specs.Widths.{areaAt}
-use Rattle.books.specs.Blocks.{dryAt, levelsAt, watersOf}
+use Rattle.books.specs.Waters.{dryAt, levelsAt, watersOf}
 use Rattle.books.specs.Bookkeeping.{booksOf, broughtOf}
 use Rattle.books.specs.Links.{lateralAt, leakageAt, namedOf, sideOf, tipBehindOf}
-use Rattle.books.specs.Terms.{fixedOf, ownOf, pumpedAt, storageAt}
+use Rattle.books.specs.Own.{fixedOf, ownOf, pumpedAt, storageAt}
 use Rattle.balance.specs.Balance.{balanceIn, flowsOf, throughOf}
 use Rattle.zone.specs.Exchange.{atEdge, changes, convertedAt, edgeOf, edgesOf}
 use Rattle.zone.specs.Holdings.{ownIn, settledOf}
@@ -35,7 +35,7 @@ use Rattle.zone.specs.Table.{linesBy, termsOf, totalsOf}
 use Rattle.zone.specs.Zones.{inZone, markedOf}
 use Rattle.budget.specs.declared.Answer.{Answer}
 use Rattle.budget.specs.Answers.{dryOf, eighteenOf, layerAnswer, layerZone, wholeAnswer, zoneAnswer, zoneChecks}
-use Rattle.budget.specs.Tables.{rowOf}
+use Rattle.budget.specs.Table.{rowOf}
 
 -- lines beside no refusal
 abbrev given : List ℤ → Answer
@@ -49,7 +49,7 @@ printed =
 
 -- the whole is one layer, so that "all" and "layer 1" have the same lines
 pub printed-tables : (wholeAnswer printedCase ≡ given printed) × (layerAnswer printedCase 1 ≡ given printed)
-unfolding firstOf inRange placeOf slotsAt orElse firstRefusal hasNext nextOf aquiferTopOf saltKOf overAreaOf faceKOf conductanceOf areaAt liveOf overlaps greatestOf eitherExceeds faceExceeds aboveExceeds boundaryExceeds blockExceeds atFault firstAtFault limitsOf every allWithin topOf rangeOf endsHold screenWithin screensHold layerHolds boundaryHolds rulesHold allZero slotsHold countsHold termsHold roomHolds widthsHold faultOf shapeOf contentsOf sum back clampOf hasPrevious previousOf neighbourOf behindOf interfaceOf freshEquivalentOf seaHeadOf hasTable saturatedTopOf heldOf levelsOf thicknessesOf volumeOf storageOf lengthWithin lengthsOf freshShareOf sharesOf belowTop rechargeOf boundaryHeadOf exchangeOf gainOf boundaryOf tipOf faceThicknessOf faceConductanceOf lateralOf uppermostOf lowermostOf differenceOf leakageOf litresOf leavingOf levelsAt watersOf booksOf broughtOf sideOf tipBehindOf lateralAt leakageAt namedOf pumpedAt storageAt ownOf fixedOf throughOf flowsOf balanceIn inZone atEdge edgeOf edgesOf changes convertedAt ownIn settledOf termsOf totalsOf linesBy rowOf eighteenOf layerZone markedOf isDry dryAt dryOf zoneChecks zoneAnswer layerAnswer wholeAnswer
+unfolding firstOf inRange placeOf slotsAt orElse firstRefusal hasNext nextOf aquiferTopOf saltKOf overAreaOf faceKOf conductanceOf areaAt liveOf overlaps greatestOf eitherExceeds faceExceeds aboveExceeds boundaryExceeds blockExceeds atFault firstAtFault limitsOf every allWithin topOf rangeOf endsHold screenWithin screensHold layerHolds boundaryHolds rulesHold allZero slotsHold countsHold termsHold roomHolds widthsHold faultOf shapeOf contentsOf sum back clampOf hasPrevious previousOf neighbourOf behindOf interfaceOf freshEquivalentOf seaHeadOf hasWaterTable saturatedTopOf heldOf levelsOf thicknessesOf volumeOf storageOf lengthWithin lengthsOf freshShareOf sharesOf belowTop rechargeOf boundaryHeadOf exchangeOf gainOf boundaryOf tipOf faceThicknessOf faceConductanceOf lateralOf uppermostOf lowermostOf differenceOf leakageOf litresOf leavingOf levelsAt watersOf booksOf broughtOf sideOf tipBehindOf lateralAt leakageAt namedOf pumpedAt storageAt ownOf fixedOf throughOf flowsOf balanceIn inZone atEdge edgeOf edgesOf changes convertedAt ownIn settledOf termsOf totalsOf linesBy rowOf eighteenOf layerZone isDry dryAt dryOf layerAnswer wholeAnswer
 printed-tables = (refl, refl)
 
 -- A grid of two columns, two rows and three layers, of which 1 1 0 1, 0 0 1 0 and 0 1 1 1 are marked, layer by layer. The lines were worked out by
@@ -77,5 +77,5 @@ sevenMarks = pos 1 ∷ pos 1 ∷ pos 0 ∷ pos 1 ∷ pos 0 ∷ pos 0 ∷ pos 1 �
 pub seven-of-twelve : zoneAnswer twelveBlocks sevenMarks ≡ given (
     pos 1590585 ∷ pos 437293318 ∷ pos 5279 ∷ pos 10825962 ∷ pos 999892 ∷ pos 50000 ∷ pos 0 ∷ negℤ (pos 432589338) ∷ pos 14983970
     ∷ negℤ (pos 1590303) ∷ pos 86616726 ∷ pos 6825939 ∷ negℤ (pos 10825962) ∷ negℤ (pos 41) ∷ pos 0 ∷ negℤ (pos 624) ∷ pos 299004 ∷ pos 70853467 ∷ [])
-unfolding firstOf inRange placeOf slotsAt orElse firstRefusal hasNext nextOf aquiferTopOf saltKOf overAreaOf faceKOf conductanceOf areaAt liveOf overlaps greatestOf eitherExceeds faceExceeds aboveExceeds boundaryExceeds blockExceeds atFault firstAtFault limitsOf every allWithin topOf rangeOf endsHold screenWithin screensHold layerHolds openHolds boundaryHolds rulesHold allZero slotsHold countsHold termsHold roomHolds widthsHold faultOf shapeOf contentsOf sum back clampOf hasPrevious previousOf neighbourOf behindOf interfaceOf freshEquivalentOf seaHeadOf hasTable saturatedTopOf heldOf levelsOf thicknessesOf volumeOf storageOf lengthWithin lengthsOf freshShareOf sharesOf belowTop rechargeOf boundaryHeadOf exchangeOf gainOf boundaryOf tipOf faceThicknessOf faceConductanceOf lateralOf uppermostOf lowermostOf differenceOf leakageOf litresOf leavingOf levelsAt watersOf booksOf broughtOf sideOf tipBehindOf lateralAt leakageAt namedOf pumpedAt storageAt ownOf fixedOf throughOf flowsOf balanceIn inZone atEdge edgeOf edgesOf changes convertedAt ownIn settledOf termsOf totalsOf linesBy rowOf eighteenOf layerZone markedOf isDry dryAt dryOf zoneChecks zoneAnswer layerAnswer wholeAnswer
+unfolding firstOf inRange placeOf slotsAt orElse firstRefusal hasNext nextOf aquiferTopOf saltKOf overAreaOf faceKOf conductanceOf areaAt liveOf overlaps greatestOf eitherExceeds faceExceeds aboveExceeds boundaryExceeds blockExceeds atFault firstAtFault limitsOf every allWithin topOf rangeOf endsHold screenWithin screensHold layerHolds openHolds boundaryHolds rulesHold allZero slotsHold countsHold termsHold roomHolds widthsHold faultOf shapeOf contentsOf sum back clampOf hasPrevious previousOf neighbourOf behindOf interfaceOf freshEquivalentOf seaHeadOf hasWaterTable saturatedTopOf heldOf levelsOf thicknessesOf volumeOf storageOf lengthWithin lengthsOf freshShareOf sharesOf belowTop rechargeOf boundaryHeadOf exchangeOf gainOf boundaryOf tipOf faceThicknessOf faceConductanceOf lateralOf uppermostOf lowermostOf differenceOf leakageOf litresOf leavingOf levelsAt watersOf booksOf broughtOf sideOf tipBehindOf lateralAt leakageAt namedOf pumpedAt storageAt ownOf fixedOf throughOf flowsOf balanceIn inZone atEdge edgeOf edgesOf changes convertedAt ownIn settledOf termsOf totalsOf linesBy rowOf eighteenOf markedOf isDry dryAt dryOf zoneChecks zoneAnswer
 seven-of-twelve = refl

@@ -11,16 +11,16 @@ use Rattle.whole.specs.Search.{firstOf}
 use Rattle.grid.specs.declared.Grid.{Grid}
 use Rattle.grid.specs.Place.{blocksOf, placeOf}
 use Rattle.slices.specs.declared.Refusal.{Refusal}
-use Rattle.slices.specs.Slices.{Case, blaming, contentsOf, firstRefusal, shapeOf, unless}
+use Rattle.slices.specs.Slices.{Case, blaming, contentsOf, firstRefusal, shapeOf, unless, unlessRefused}
 use Rattle.block.specs.Fluids.{fresh, salt}
 use Rattle.wellformed.specs.Limits.{checkedOf, checksOf, limitsOf}
-use Rattle.books.specs.Blocks.{dryAt}
+use Rattle.books.specs.Waters.{dryAt}
 use Rattle.verdict.specs.Acceptance.{Wet}
 use Rattle.zone.specs.declared.lines.Lines.{Lines}
 use Rattle.zone.specs.Table.{linesOf}
 use Rattle.zone.specs.Zones.{markedOf}
 use Rattle.budget.specs.declared.Answer.{Answer}
-use Rattle.budget.specs.Tables.{rowOf}
+use Rattle.budget.specs.Table.{rowOf}
 
 -- ---- refusals
 
@@ -36,7 +36,7 @@ marksHold g marks = allWithin (between (pos 0) (pos 1)) marks (blocksOf g)
 unfoldable pub dryOf : Grid → List ℤ → ℕ
 dryOf g slots = firstOf (blocksOf g) (dryAt g slots)
 
--- judged last
+-- 13, judged last: "11 before 13"
 abbrev pub wellChecks : Case → List Refusal
 wellChecks c = blaming 13 (dryOf (c .grid) (c .slots)) ∷ []
 
@@ -46,21 +46,22 @@ zoneChecks c marks =
     shapeOf c ++ (unless 7 (marksReach (c .grid) marks) ∷ [])
     ++ ((contentsOf c ++ limitsOf c) ++ (unless 11 (marksHold (c .grid) marks) ∷ []))
 
--- "11 before 13"
+-- what a table of a zone is refused with: "11 before 13"
 abbrev pub zoneRefusal : Case → List ℤ → Refusal
 zoneRefusal c marks = firstRefusal (zoneChecks c marks ++ wellChecks c)
 
--- and where no marks are lent
+-- what a table of a layer or of the whole is refused with: "Slices are judged 3, 7, 4, 5, 6, 9, 10; then, for a table, 11 before 13", but no marks
+-- are lent
 abbrev pub caseRefusal : Case → Refusal
 caseRefusal c = firstRefusal (checksOf c ++ wellChecks c)
 
 -- ---- zones without marks
 
--- one layer: "Layer 1 is the deepest."; "layers from 1"
+-- the zone of one layer: "Layer 1 is the deepest."; "layers from 1"
 unfoldable pub layerZone : Grid → ℕ → ℕ → Bool
 layerZone g layer i = eqb (placeOf g i .layer + 1) layer
 
--- the whole
+-- the zone of all blocks
 abbrev pub everywhere : ℕ → Bool
 everywhere i = true
 
@@ -74,7 +75,7 @@ marksOf (suc n) z row = set (marksOf n z row) n (markOf z n)
 
 -- ---- answers
 
--- the eighteen lines of a zone, fresh before salt
+-- the eighteen lines of a zone, fresh before salt, litres a day: "two rows, fresh and salt, of nine lines"
 unfoldable pub eighteenOf : Case → (ℕ → Bool) → List ℤ
 eighteenOf c z = rowOf (linesOf c z fresh) ++ rowOf (linesOf c z salt)
 
@@ -87,9 +88,9 @@ refusing r = record { refusal = r; lines = noLines }
 
 -- a refusal, or lines beside none
 abbrev pub tabled : Refusal → List ℤ → Answer
-tabled r lines = record { refusal = r; lines = cond (eqb (r .number) 0) lines noLines }
+tabled r lines = record { refusal = r; lines = unlessRefused r lines noLines }
 
--- of a zone by its marks, of a layer, of the whole
+-- what is answered for a zone by its marks, for a layer, and for the whole
 unfoldable pub zoneAnswer : Case → List ℤ → Answer
 zoneAnswer c marks = tabled (zoneRefusal c marks) (eighteenOf c (markedOf marks))
 

@@ -1,2 +1,3 @@
-pub mod Tables
+-- The definitions of `budget`, for the crates above.
+pub mod Table
 pub mod Answers

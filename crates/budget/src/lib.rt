@@ -8,7 +8,7 @@ ghost use lib.ListN.{length};
 ghost use Rattle.grid.specs.Place.{Counted, blocksOf};
 ghost use Rattle.slices.specs.Slices.{caseOf, firstRefusal};
 ghost use Rattle.wellformed.specs.Limits.{WellFormed};
-ghost use Rattle.books.specs.Blocks.{Slotted, Watered};
+ghost use Rattle.books.specs.Waters.{Slotted, Watered};
 ghost use Rattle.zone.specs.Zones.{markedOf};
 ghost use Rattle.budget.specs.Answers.{
   dryOf,

@@ -9,7 +9,7 @@ ghost use Rattle.grid.specs.Place.{blocksOf};
 ghost use Rattle.slices.specs.Slices.{caseOf};
 ghost use Rattle.zone.specs.Zones.{markedOf};
 ghost use Rattle.zone.specs.Table.{Ready};
-ghost use Rattle.budget.specs.Tables.{rowOf, addRow, addTable, shareOf, tableTo, flatOf, entry, mostLine};
+ghost use Rattle.budget.specs.Table.{rowOf, addRow, addTable, shareOf, tableTo, flatOf, entry, mostLine};
 use block::units::FRESH;
 use block::units::SALT;
 use grid::Grid;
@@ -121,8 +121,8 @@ pub fn table(
     sums
 }
 
-// The lines with a row laid in from a place on. Inner: there is room from there on. A row has nine lines, which the caller cannot know of a row
-// of a table.
+// The lines with a row laid in from a place on. Inner: there is room from there on. It says too that the row has nine lines, since the type
+// of a table's row does not tell the caller's proof.
 fn put(lines: [i64; 18], at: usize, row: [i64; 9]) -> [i64; 18]
     requires { ⌜ at ≤ 9 ⌝ }
     ensures laid { λ r. ⌜ r ≡ paste lines at row 9 ⌝ }

@@ -6,6 +6,8 @@ use native.Mathlib.Omega.{arith}
 use lib.IntN.{pos, ℤ}
 use lib.ListN.{List·getD-append, drop, getD, length, length-append}
 use lib.Seq.{drop-at}
+use Rattle.whole.specs.Lent.{over}
+use Rattle.whole.proofs.LentLaws.{over-behind, over-room, over-same}
 use Rattle.grid.specs.declared.Grid.{Grid}
 use Rattle.grid.specs.Judging.{countsHold}
 use Rattle.grid.specs.Place.{blocksOf}
@@ -14,10 +16,8 @@ use Rattle.slices.specs.Slices.{Roomy, caseOf, none, shapeOf}
 use Rattle.slices.proofs.SlicesLaws.{here, holds-among}
 use Rattle.wellformed.specs.Limits.{checkedOf}
 use Rattle.wellformed.proofs.RoomLaws.{Alike, room-unread}
-use Rattle.casefile.specs.declared.Answer.{Answer}
 use Rattle.casefile.specs.Reading.{caseFrom, columnsFrom, readingOf, rowsFrom, slotsFrom}
-use Rattle.casefile.specs.Runs.{over}
-use Rattle.casefile.proofs.ReadingLaws.{accepted, body-lengths, body-passes, body-roomy, read-holds}
+use Rattle.casefile.proofs.ReadingLaws.{unrefused, body-lengths, body-passes, body-roomy, read-holds}
 
 -- Demand 1: a refusal leaves every lent slice as it was.
 pub refused-unchanged : (file : List ℕ) (columns rows slots : List ℤ) → let r = readingOf file columns rows slots in (r .answer .refusal .number ≡ 0 → ⊥) →
@@ -33,12 +33,8 @@ pub needed-read : (file : List ℕ) (columns rows slots : List ℤ) → let r = 
     (length (r .columns) ≡ g .columns) × ((length (r .rows) ≡ g .rows) × (length (r .slots) ≡ slotsEach * blocksOf g))
 unfolding caseFrom
 needed-read file columns rows slots e =
-    let a = accepted file columns rows slots e in
+    let a = unrefused file columns rows slots e in
     rw (a .is) (body-lengths (a .grid) file (a .from) (a .next) (a .done))
-
--- behind what lies over the front all is as it was
-over-behind : (n : ℕ) (vs l : List ℤ) → length vs ≡ n → drop n (over vs l) ≡ drop n l
-over-behind n vs l h = drop-at vs (drop (length vs) l) n h ∙ ap (λ (k : ℕ). drop k l) h
 
 -- "Room beyond what is needed is not touched."
 pub beyond-untouched : (file : List ℕ) (columns rows slots : List ℤ) → let r = readingOf file columns rows slots in let g = r .answer .grid in r .answer .refusal .number ≡ 0 →
@@ -51,14 +47,6 @@ beyond-untouched file columns rows slots e =
       over-behind (g .columns) (r .columns) columns (sizes .0),
       (over-behind (g .rows) (r .rows) rows (sizes .1 .0), over-behind (slotsEach * blocksOf g) (r .slots) slots (sizes .1 .1)),
     )
-
--- what lies over the front is read there again
-over-same : (n : ℕ) (vs l : List ℤ) → length vs ≡ n → (k : ℕ) → k < n → getD vs k (pos 0) ≡ getD (over vs l) k (pos 0)
-over-same n vs l h k less = sym (List·getD-append vs (drop (length vs) l) (pos 0) k (omega arith))
-
--- and has room there
-over-room : (n : ℕ) (vs l : List ℤ) → length vs ≡ n → n ≤ length (over vs l)
-over-room n vs l h = omega (arith, length-append vs (drop (length vs) l))
 
 module _ (g : Grid) (c r s columns rows slots : List ℤ) (sizes : (length c ≡ g .columns) × ((length r ≡ g .rows) × (length s ≡ slotsEach * blocksOf g))) where
   -- so with as many widths and slots as a record needs
@@ -83,7 +71,7 @@ pub read-passes : (file : List ℕ) (columns rows slots : List ℤ) → let r = 
     checkedOf (caseOf (r .answer .grid) (over (r .columns) columns) (over (r .rows) rows) (over (r .slots) slots)) ≡ none
 unfolding caseFrom shapeOf
 read-passes file columns rows slots e =
-    let a = accepted file columns rows slots e in
+    let a = unrefused file columns rows slots e in
     let g = a .grid in
     let sizes = body-lengths g file (a .from) (a .next) (a .done) in
     let c = columnsFrom g file (a .from) .values in
@@ -96,10 +84,3 @@ read-passes file columns rows slots e =
 -- A refusal of a file is one of 1 to 10.
 pub ten-refusals : (file : List ℕ) (columns rows slots : List ℤ) → readingOf file columns rows slots .answer .refusal .number ≤ 10
 ten-refusals = read-holds (λ r. r .answer .refusal .number ≤ 10) (λ c. omega arith) (λ r listed. listed .1)
-
--- One outcome: two outcomes that the contract permits are equal, refusals too, in the answer and in every lent slice.
-pub one-read : (file : List ℕ) (columns rows slots : List ℤ) (a b : Answer) (c d e f g h : List ℤ) → let r = readingOf file columns rows slots in
-    (a ≡ r .answer) × ((c ≡ over (r .columns) columns) × ((e ≡ over (r .rows) rows) × (g ≡ over (r .slots) slots))) →
-    (b ≡ r .answer) × ((d ≡ over (r .columns) columns) × ((f ≡ over (r .rows) rows) × (h ≡ over (r .slots) slots))) →
-    (a ≡ b) × ((c ≡ d) × ((e ≡ f) × (g ≡ h)))
-one-read file columns rows slots a b c d e f g h p q = (p .0 ∙ sym (q .0), (p .1 .0 ∙ sym (q .1 .0), (p .1 .1 .0 ∙ sym (q .1 .1 .0), p .1 .1 .1 ∙ sym (q .1 .1 .1))))

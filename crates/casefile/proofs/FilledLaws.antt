@@ -12,6 +12,8 @@ use lib.IntN.{pos, ℤ}
 use lib.ListN.{List·getD-append, drop, length, length-append, length-drop, take, take-append-drop}
 use lib.Seq.{drop-append-le, drop-at, getD-append-seam}
 use borrow.Rule.Slice.PartMut.{putMid}
+use Rattle.whole.specs.Lent.{over}
+use Rattle.whole.proofs.LentLaws.{over-rest, rest-all, rest-put}
 use Rattle.whole.specs.declared.ranges.Range.{Range}
 use Rattle.whole.specs.Ranges.{inRange}
 use Rattle.whole.proofs.SearchLaws.{holds}
@@ -31,9 +33,8 @@ use Rattle.casefile.specs.declared.fields.Part.{Part}
 use Rattle.casefile.specs.declared.fields.Part.the-variants.{Counts, Slots, Terms, Widths}
 use Rattle.casefile.specs.declared.runs.Run.{Run}
 use Rattle.casefile.specs.declared.runs.Run.the-variants.{Done, Refused}
-use Rattle.casefile.specs.Fields.{Within, endsOf, fieldAt, isSent, judgedIn, meantOf, numberJudged, refusalOf}
-use Rattle.casefile.specs.Runs.{Filled, blockFrom, blocksFrom, fillFrom, fillOf, onward, over, ruled}
-use Rattle.casefile.proofs.RunsLaws.{over-rest, rest-all, rest-put}
+use Rattle.casefile.specs.Fields.{Within, endsOf, fieldAt, isSent, judgedIn, meantOf, numberJudged, partRefusal}
+use Rattle.casefile.specs.Runs.{Filled, blockFrom, blocksFrom, fillFrom, fillOf, onward, ruled}
 use Rattle.casefile.specs.declared.fields.Got.the-variants as got
 use Rattle.numbers.specs.declared.Number.the-variants as number
 
@@ -62,7 +63,7 @@ judged-value (number.Value n at) ends r v next e = judged-in (meantOf (ends .low
 -- a number that is sent is within its ends
 sent-in : (part : Part) (file : List ℕ) (at next : ℕ) (done : List ℤ) (v : ℤ) → isSent part done ≡ true → fieldAt part file at done ≡ Value v next → T (inRange (endsOf part (length done)) v)
 unfolding fieldAt
-sent-in part file at next done v sent e = judged-value (numberAt file at) (endsOf part (length done)) (refusalOf part) v next (rw sent at e)
+sent-in part file at next done v sent e = judged-value (numberAt file at) (endsOf part (length done)) (partRefusal part) v next (rw sent at e)
 
 -- one more number within its ends
 within-more : (part : Part) (done : List ℤ) (v : ℤ) → Within part (length done) done → T (inRange (endsOf part (length done)) v) → Within part (length done + 1) (done ++ (v ∷ []))
@@ -81,30 +82,30 @@ module _ (Tells : ℕ → Type 0) (early : Early Tells) where
   refused-tells n b r e h = let same : n ≡ r .number = cc in subst Tells same h
 
   -- what a part's numbers are refused with tells it
-  part-tells : (part : Part) → Tells (refusalOf part .number)
-  unfolding refusalOf
+  part-tells : (part : Part) → Tells (partRefusal part .number)
+  unfolding partRefusal
   part-tells Counts = early 3 (omega arith) (omega arith)
   part-tells Terms = early 4 (omega arith) (omega arith)
   part-tells Widths = early 5 (omega arith) (omega arith)
   part-tells (Slots block) = early 6 (omega arith) (omega arith)
 
   -- so does what a number in the file is refused with
-  judged-tells : (n : Number) (ends : Range) (part : Part) (r : Refusal) → numberJudged n ends (refusalOf part) ≡ got.Refused r → Tells (r .number)
+  judged-tells : (n : Number) (ends : Range) (part : Part) (r : Refusal) → numberJudged n ends (partRefusal part) ≡ got.Refused r → Tells (r .number)
   unfolding numberJudged judgedIn
   judged-tells number.Ended ends part r e = refused-tells 1 0 r e (early 1 (omega arith) (omega arith))
   judged-tells number.TooLong ends part r e = refused-tells 2 0 r e (early 2 (omega arith) (omega arith))
   judged-tells (number.Value n next) ends part r e = go (inRange ends (meantOf (ends .lower) n)) e
     where
-      go : (b : Bool) → cond b (Value (meantOf (ends .lower) n) next) (got.Refused (refusalOf part)) ≡ got.Refused r → Tells (r .number)
+      go : (b : Bool) → cond b (Value (meantOf (ends .lower) n) next) (got.Refused (partRefusal part)) ≡ got.Refused r → Tells (r .number)
       go true e = absurd (unheard r (meantOf (ends .lower) n) next (sym e))
-      go false e = refused-tells (refusalOf part .number) (refusalOf part .block) r e (part-tells part)
+      go false e = refused-tells (partRefusal part .number) (partRefusal part .block) r e (part-tells part)
 
   -- and what any field is refused with
   field-tells : (part : Part) (file : List ℕ) (at : ℕ) (done : List ℤ) (r : Refusal) → fieldAt part file at done ≡ got.Refused r → Tells (r .number)
   unfolding fieldAt
   field-tells part file at done r = go (isSent part done)
     where
-      go : (b : Bool) → cond b (numberJudged (numberAt file at) (endsOf part (length done)) (refusalOf part)) (Value (pos 0) at) ≡ got.Refused r → Tells (r .number)
+      go : (b : Bool) → cond b (numberJudged (numberAt file at) (endsOf part (length done)) (partRefusal part)) (Value (pos 0) at) ≡ got.Refused r → Tells (r .number)
       go true e = judged-tells (numberAt file at) (endsOf part (length done)) part r e
       go false e = absurd (unheard r (pos 0) at (sym e))
 

@@ -6,38 +6,37 @@ use Prim.Native.Nat.{_*_, _<_, _≤_, suc, zero, ℕ}
 use native.Mathlib.Decide.{ℕ-discrete}
 use native.Mathlib.Nat.{le-of-eq}
 use native.Mathlib.Omega.{arith}
-use lib.Dec.{T, leb, le→leb}
-use lib.IntN.{natAbs, pos, ℤ}
+use lib.Dec.{T, leb}
+use lib.IntN.{pos, ℤ}
 use lib.ListN.{drop, drop-of-length-le, getD, length, take}
 use lib.Seq.{take-at}
-use borrow.Author.Tests.{eq-eqb, le-leb, ne-eqb}
+use borrow.Author.Tests.{eq-eqb, ne-eqb}
+use Rattle.whole.specs.Lent.{over}
 use Rattle.whole.specs.Ranges.{allWithin, between, inRange}
 use Rattle.whole.specs.Whole.{In}
 use Rattle.whole.proofs.OrderLaws.{in-abs}
 use Rattle.whole.proofs.RangeLaws.{leaf, within}
-use Rattle.whole.proofs.SearchLaws.{every-passes, follows, joint, none-first, true-is}
+use Rattle.whole.proofs.SearchLaws.{every-passes, follows, none-first, true-is}
 use Rattle.whole.proofs.WithinLaws.{range-in}
 use Rattle.grid.specs.declared.Grid.{Grid}
 use Rattle.grid.specs.Judging.{Termed, countsHold, termsHold}
 use Rattle.grid.specs.Place.{Counted, blocksOf, topOf}
+use Rattle.grid.proofs.JudgingLaws.{counted-counts, termed-terms}
 use Rattle.slots.specs.Rules.{slotsHold}
 use Rattle.slots.specs.Slots.{partOf}
 use Rattle.slots.specs.Units.{slotsEach}
-use Rattle.slots.proofs.SlotsLaws.{slots-active, slots-inactive}
 use Rattle.slices.specs.declared.Refusal.{Refusal}
-use Rattle.slices.specs.Slices.{Case, Judged, Roomy, blaming, caseOf, contentsOf, faultOf, firstRefusal, mostWidth, none, orElse, roomHolds, shapeOf, unless, widthsHold}
-use Rattle.slices.proofs.SlicesLaws.{none-refused, none-together, or-first, or-next}
+use Rattle.slices.specs.Slices.{Case, Judged, Roomy, blaming, caseOf, contentsOf, faultOf, firstRefusal, mostWidth, none, orElse, roomHolds, shapeOf, unless, widthsHold, judgedOf}
+use Rattle.slices.proofs.SlicesLaws.{none-refused, none-together, or-first, or-next, contents-pass, judged-stands, shape-passes}
 use Rattle.wellformed.specs.Limits.{checkedOf, checksOf, firstAtFault, limitsOf}
 use Rattle.casefile.specs.declared.fields.Part.{Part}
 use Rattle.casefile.specs.declared.fields.Part.the-variants.{Counts, Terms, Widths}
 use Rattle.casefile.specs.declared.runs.Run.{Run}
 use Rattle.casefile.specs.declared.runs.Run.the-variants.{Done, Refused}
-use Rattle.casefile.specs.Fields.{Within, counts, endsOf, headRange, isSent, terms}
-use Rattle.casefile.specs.Reading.{Read, accepting, after, bodyOf, caseFrom, columnsFrom, countedOf, judging, readingOf, refusing, rowsFrom, settledOf, slotsFrom, termedOf, termsOf}
-use Rattle.casefile.specs.Runs.{endingOf, fillOf, over}
+use Rattle.casefile.specs.Fields.{Within, counts, endsOf, recordRange, isSent, terms}
+use Rattle.casefile.specs.Reading.{Read, giving, after, bodyOf, caseFrom, columnsFrom, countedOf, judging, readingOf, refusing, rowsFrom, storedOf, slotsFrom, termedOf, afterCounts}
+use Rattle.casefile.specs.Runs.{endingOf, fillOf}
 use Rattle.casefile.proofs.FilledLaws.{Early, Numbered, Telling, blocks-before, blocks-hold, blocks-length, blocks-telling, done-before, done-numbered, done-telling, early-numbered, fill-of-length, fill-of-numbered, fill-of-telling, fill-within}
-use Rattle.casefile.specs.declared.fields.Got.the-variants as got
-use Rattle.numbers.specs.declared.Number.the-variants as number
 
 -- ---- a case that was read
 
@@ -62,7 +61,7 @@ number-in part n v w k l = range-in (endsOf part k) (getD v k (pos 0)) (w k l)
 
 -- terms within their ends are what later parts require
 pub termed-within : (g : Grid) (v : List ℤ) → Within Terms terms v → Termed (termedOf g v)
-unfolding termedOf endsOf headRange
+unfolding termedOf endsOf recordRange
 termed-within g v w = record {
   delta = term 0 (omega arith);
   flag = in-abs (within (leaf (term 1 (omega arith))) tt tt);
@@ -72,11 +71,6 @@ termed-within g v w = record {
   where
     term : (k : ℕ) → k < terms → In (endsOf Terms k .lower) (endsOf Terms k .upper) (getD v k (pos 0))
     term = number-in Terms terms v w
-
--- widths that a done run read are within their ends
-width-in : (from : Run) (file : List ℕ) (total next : ℕ) → fillOf from Widths file total .run ≡ Done next → (k : ℕ) → k < total → In (pos 1) (pos mostWidth) (getD (fillOf from Widths file total .values) k (pos 0))
-unfolding endsOf
-width-in from file total next e = number-in Widths total (fillOf from Widths file total .values) (fill-within Widths widths-sent file from total next e)
 
 -- a body that was read to its end has as many widths and slots as its record needs
 pub body-lengths : (g : Grid) (file : List ℕ) (at next : ℕ) → slotsFrom g file at .run ≡ Done next →
@@ -97,25 +91,28 @@ body-roomy g file at next e =
     let sizes = body-lengths g file at next e in
     record { columns = le-of-eq (sym (sizes .0)); rows = le-of-eq (sym (sizes .1 .0)); slots = le-of-eq (sym (sizes .1 .1)) }
 
--- a case that was read is refused by none of 3, 7, 4, 5 and 6, where the counts and terms of its record are in range
-pub case-judged : (g : Grid) (file : List ℕ) (at next : ℕ) → Counted g → Termed g → slotsFrom g file at .run ≡ Done next → Judged (caseFrom g file at)
-unfolding caseFrom
-case-judged g file at next counted termed e =
+-- widths that a done run read pass 5
+widths-hold : (from : Run) (file : List ℕ) (total next : ℕ) → fillOf from Widths file total .run ≡ Done next → allWithin (between (pos 1) (pos mostWidth)) (fillOf from Widths file total .values) total ≡ true
+unfolding allWithin endsOf
+widths-hold from file total next e = every-passes (λ k. inRange (between (pos 1) (pos mostWidth)) (getD (fillOf from Widths file total .values) k (pos 0))) total (fill-within Widths widths-sent file from total next e)
+
+-- a body that was read to its end is refused by none of 3, 7, 4, 5 and 6, where the counts and terms of its record are in range
+body-judged : (g : Grid) (file : List ℕ) (at next : ℕ) → T (countsHold g) → T (termsHold g) → slotsFrom g file at .run ≡ Done next → judgedOf (caseFrom g file at) .number ≡ 0
+unfolding caseFrom widthsHold faultOf
+body-judged g file at next counted termed e =
+    let c = caseFrom g file at in
     let columns = columnsFrom g file at .run in
     let rows = rowsFrom g file at .run in
     let row = blocks-before rows g file (blocksOf g) next e in
     let column = done-before columns Widths file (g .rows) (row .0) (row .1) in
-    let stands = blocks-hold rows g file (blocksOf g) next e in
     let slots = slotsFrom g file at .values in
-    record {
-      counted = counted;
-      roomy = body-roomy g file at next e;
-      termed = termed;
-      column = width-in (Done at) file (g .columns) (column .0) (column .1);
-      row = width-in columns file (g .rows) (row .0) (row .1);
-      active = λ i l. slots-active (partOf slots i) (topOf g i) (stands i l);
-      inactive = λ i l. slots-inactive (partOf slots i) (topOf g i) (stands i l);
-    }
+    let widths = ap₂ _&&_ (widths-hold (Done at) file (g .columns) (column .0) (column .1)) (widths-hold columns file (g .rows) (row .0) (row .1)) in
+    let fault = none-first (λ i. not (slotsHold (partOf slots i) (topOf g i))) (blocksOf g) (λ i l. ap not (true-is {b = slotsHold (partOf slots i) (topOf g i)} (blocks-hold rows g file (blocksOf g) next e i l))) in
+    none-together (shapeOf c) (contentsOf c) (shape-passes c counted (body-roomy g file at next e)) (contents-pass c (true-is termed) widths fault)
+
+-- so it is judged
+pub case-judged : (g : Grid) (file : List ℕ) (at next : ℕ) → Counted g → Termed g → slotsFrom g file at .run ≡ Done next → Judged (caseFrom g file at)
+case-judged g file at next counted termed e = judged-stands (caseFrom g file at) (body-judged g file at next (counted-counts g counted) (termed-terms g termed) e)
 
 -- a run that fills a slice to its end leaves in it just what was read
 pub fill-of-whole : (from : Run) (part : Part) (file : List ℕ) (total next : ℕ) (l : List ℤ) → length l ≡ total → fillOf from part file total .run ≡ Done next → over (fillOf from part file total .values) l ≡ fillOf from part file total .values
@@ -195,12 +192,12 @@ unfolding after
 after-done run at more e = rw e refl
 
 -- what follows the counts, by the run over the terms
-pub terms-refused : (g : Grid) (file : List ℕ) (at : ℕ) (run : Run) (r : Refusal) → run ≡ fillOf (Done at) Terms file terms .run → run ≡ Refused r → termsOf g file at ≡ refusing r
-unfolding termsOf
+pub terms-refused : (g : Grid) (file : List ℕ) (at : ℕ) (run : Run) (r : Refusal) → run ≡ fillOf (Done at) Terms file terms .run → run ≡ Refused r → afterCounts g file at ≡ refusing r
+unfolding afterCounts
 terms-refused g file at run r e h = let f = fillOf (Done at) Terms file terms in after-refused (f .run) r (bodyOf (termedOf g (f .values)) file) (sym e ∙ h)
 
-pub terms-done : (g h : Grid) (file : List ℕ) (at next : ℕ) (run : Run) → run ≡ fillOf (Done at) Terms file terms .run → run ≡ Done next → h ≡ termedOf g (fillOf (Done at) Terms file terms .values) → termsOf g file at ≡ bodyOf h file next
-unfolding termsOf
+pub terms-done : (g h : Grid) (file : List ℕ) (at next : ℕ) (run : Run) → run ≡ fillOf (Done at) Terms file terms .run → run ≡ Done next → h ≡ termedOf g (fillOf (Done at) Terms file terms .values) → afterCounts g file at ≡ bodyOf h file next
+unfolding afterCounts
 terms-done g h file at next run e d s = let f = fillOf (Done at) Terms file terms in after-done (f .run) next (bodyOf (termedOf g (f .values)) file) (sym e ∙ d) ∙ ap (λ k. bodyOf k file next) (sym s)
 
 -- the whole file, by the run over the counts
@@ -210,15 +207,15 @@ module _ (file : List ℕ) (columns rows slots : List ℤ) (run : Run) (told : r
   counts-refused r h =
       let f = fillOf (Done 0) Counts file counts in
       let g = countedOf (f .values) in
-      after-refused (f .run) r (λ at. judging (firstRefusal (shapeOf (caseOf g columns rows slots))) (termsOf g file at)) (sym told ∙ h)
+      after-refused (f .run) r (λ at. judging (firstRefusal (shapeOf (caseOf g columns rows slots))) (afterCounts g file at)) (sym told ∙ h)
 
-  pub counts-done : (g : Grid) (next : ℕ) → run ≡ Done next → g ≡ countedOf (fillOf (Done 0) Counts file counts .values) → readingOf file columns rows slots ≡ judging (firstRefusal (shapeOf (caseOf g columns rows slots))) (termsOf g file next)
+  pub counts-done : (g : Grid) (next : ℕ) → run ≡ Done next → g ≡ countedOf (fillOf (Done 0) Counts file counts .values) → readingOf file columns rows slots ≡ judging (firstRefusal (shapeOf (caseOf g columns rows slots))) (afterCounts g file next)
   unfolding readingOf
   counts-done g next h s =
       let f = fillOf (Done 0) Counts file counts in
       let k = countedOf (f .values) in
-      after-done (f .run) next (λ at. judging (firstRefusal (shapeOf (caseOf k columns rows slots))) (termsOf k file at)) (sym told ∙ h)
-      ∙ ap (λ k. judging (firstRefusal (shapeOf (caseOf k columns rows slots))) (termsOf k file next)) (sym s)
+      after-done (f .run) next (λ at. judging (firstRefusal (shapeOf (caseOf k columns rows slots))) (afterCounts k file at)) (sym told ∙ h)
+      ∙ ap (λ k. judging (firstRefusal (shapeOf (caseOf k columns rows slots))) (afterCounts k file next)) (sym s)
 
 -- ---- a file that is not refused
 
@@ -238,24 +235,17 @@ after-none (Done at) more h e = (at, refl)
 
 -- a file's body that is not refused: it was read to its end, passes 9 and 10, and is the answer
 body-none : (g : Grid) (file : List ℕ) (at : ℕ) → bodyOf g file at .answer .refusal .number ≡ 0 →
-    (endingOf (slotsFrom g file at .run) file .number ≡ 0) × ((firstRefusal (limitsOf (caseFrom g file at)) .number ≡ 0) × (bodyOf g file at ≡ accepting (caseFrom g file at)))
-unfolding bodyOf settledOf
+    (endingOf (slotsFrom g file at .run) file .number ≡ 0) × ((firstRefusal (limitsOf (caseFrom g file at)) .number ≡ 0) × (bodyOf g file at ≡ giving (caseFrom g file at)))
+unfolding bodyOf storedOf
 body-none g file at e =
     let c = caseFrom g file at in
-    let ended = judging-none (endingOf (slotsFrom g file at .run) file) (settledOf c) e in
-    let limits = judging-none (firstRefusal (limitsOf c)) (accepting c) (rw (ended .1) at e) in
+    let ended = judging-none (endingOf (slotsFrom g file at .run) file) (storedOf c) e in
+    let limits = judging-none (firstRefusal (limitsOf c)) (giving c) (rw (ended .1) at e) in
     (ended .0, (limits .0, ended .1 ∙ limits .1))
 
 -- terms within their ends pass 4
 terms-hold : (g : Grid) (v : List ℤ) → Within Terms terms v → T (termsHold (termedOf g v))
-unfolding termedOf endsOf headRange termsHold
-terms-hold g v w =
-    let flag = leb (natAbs (getD v 1 (pos 0))) 1 in
-    joint (term 0) (flag && (term 2 && term 3)) (w 0 (omega arith))
-    (joint flag (term 2 && term 3) (le→leb _ _ (termed-within g v w .flag)) (joint (term 2) (term 3) (w 2 (omega arith)) (w 3 (omega arith))))
-  where
-    term : ℕ → Bool
-    term k = inRange (endsOf Terms k) (getD v k (pos 0))
+terms-hold g v w = termed-terms (termedOf g v) (termed-within g v w)
 
 -- the terms change nothing that 3 and 7 ask for
 termed-shape : (g : Grid) (v columns rows slots : List ℤ) → shapeOf (caseOf (termedOf g v) columns rows slots) ≡ shapeOf (caseOf g columns rows slots)
@@ -264,7 +254,7 @@ termed-shape g v columns rows slots = refl
 
 -- what a file that is not refused tells: a record that passes 3 and 7 with the lent slices, and 4; a body that was read to its end and passes 9 and 10; and that
 -- these are the answer
-pub record Accepted (file : List ℕ) (columns rows slots : List ℤ) : Type 0 where
+pub record Unrefused (file : List ℕ) (columns rows slots : List ℤ) : Type 0 where
   pub grid : Grid
   pub from : ℕ
   pub next : ℕ
@@ -272,20 +262,20 @@ pub record Accepted (file : List ℕ) (columns rows slots : List ℤ) : Type 0 w
   pub termed : T (termsHold grid)
   pub done : slotsFrom grid file from .run ≡ Done next
   pub limits : firstRefusal (limitsOf (caseFrom grid file from)) .number ≡ 0
-  pub is : readingOf file columns rows slots ≡ accepting (caseFrom grid file from)
+  pub is : readingOf file columns rows slots ≡ giving (caseFrom grid file from)
 
 -- the law that it does
-pub accepted : (file : List ℕ) (columns rows slots : List ℤ) → readingOf file columns rows slots .answer .refusal .number ≡ 0 → Accepted file columns rows slots
-unfolding readingOf termsOf
-accepted file columns rows slots e =
+pub unrefused : (file : List ℕ) (columns rows slots : List ℤ) → readingOf file columns rows slots .answer .refusal .number ≡ 0 → Unrefused file columns rows slots
+unfolding readingOf afterCounts
+unrefused file columns rows slots e =
     let head = fillOf (Done 0) Counts file counts in
     let g = countedOf (head .values) in
     let shape = firstRefusal (shapeOf (caseOf g columns rows slots)) in
-    let more : ℕ → Read = λ at. judging shape (termsOf g file at) in
+    let more : ℕ → Read = λ at. judging shape (afterCounts g file at) in
     let counted = after-none (head .run) more (fill-of-numbered (Done 0) Counts file counts (done-numbered 0)) e in
     let at = counted .0 in
     let to-shape = after-done (head .run) at more (counted .1) in
-    let room = judging-none shape (termsOf g file at) (rw to-shape at e) in
+    let room = judging-none shape (afterCounts g file at) (rw to-shape at e) in
     let tail = fillOf (Done at) Terms file terms in
     let whole = termedOf g (tail .values) in
     let ran = after-none (tail .run) (bodyOf whole file) (fill-of-numbered (Done at) Terms file terms (done-numbered at)) (rw (to-shape ∙ room .1) at e) in
@@ -303,40 +293,12 @@ accepted file columns rows slots e =
       is = to-shape ∙ room .1 ∙ to-body ∙ body .1 .1;
     }
 
--- widths that a done run read pass 5
-widths-hold : (from : Run) (file : List ℕ) (total next : ℕ) → fillOf from Widths file total .run ≡ Done next → allWithin (between (pos 1) (pos mostWidth)) (fillOf from Widths file total .values) total ≡ true
-unfolding allWithin endsOf
-widths-hold from file total next e = every-passes (λ k. inRange (between (pos 1) (pos mostWidth)) (getD (fillOf from Widths file total .values) k (pos 0))) total (fill-within Widths widths-sent file from total next e)
-
--- a case passes 3 and 7 by its counts and its room
-shape-passes : (c : Case) → T (countsHold (c .grid)) → Roomy c → firstRefusal (shapeOf c) .number ≡ 0
-unfolding shapeOf roomHolds firstRefusal orElse
-shape-passes c t m =
-    let held = true-is {b = countsHold (c .grid)} t in
-    rw (held, le-leb _ _ (m .columns), le-leb _ _ (m .rows), le-leb _ _ (m .slots)) refl
-
--- and 4, 5 and 6 by its terms, its widths and its blocks
-contents-pass : (c : Case) → termsHold (c .grid) ≡ true → widthsHold (c .grid) (c .columns) (c .rows) ≡ true → faultOf (c .grid) (c .slots) ≡ 0 → firstRefusal (contentsOf c) .number ≡ 0
-unfolding contentsOf firstRefusal orElse
-contents-pass c t w f = rw (t, w, f) refl
-
 -- a body that was read to its end passes all checks of slices, where its record passes 3 and 4, and it 9 and 10
 pub body-passes : (g : Grid) (file : List ℕ) (at next : ℕ) → T (countsHold g) → T (termsHold g) → slotsFrom g file at .run ≡ Done next → firstRefusal (limitsOf (caseFrom g file at)) .number ≡ 0 →
     checkedOf (caseFrom g file at) ≡ none
-unfolding caseFrom widthsHold faultOf
 body-passes g file at next counted termed e limits =
     let c = caseFrom g file at in
-    let columns = columnsFrom g file at .run in
-    let rows = rowsFrom g file at .run in
-    let row = blocks-before rows g file (blocksOf g) next e in
-    let column = done-before columns Widths file (g .rows) (row .0) (row .1) in
-    let slots = slotsFrom g file at .values in
-    let widths = ap₂ _&&_ (widths-hold (Done at) file (g .columns) (column .0) (column .1)) (widths-hold columns file (g .rows) (row .0) (row .1)) in
-    let fault = none-first (λ i. not (slotsHold (partOf slots i) (topOf g i))) (blocksOf g) (λ i l. ap not (true-is {b = slotsHold (partOf slots i) (topOf g i)} (blocks-hold rows g file (blocksOf g) next e i l))) in
-    none-refused (checksOf c)
-    (none-together (shapeOf c ++ contentsOf c) (limitsOf c)
-    (none-together (shapeOf c) (contentsOf c) (shape-passes c counted (body-roomy g file at next e)) (contents-pass c (true-is termed) widths fault))
-    limits)
+    none-refused (checksOf c) (none-together (shapeOf c ++ contentsOf c) (limitsOf c) (body-judged g file at next counted termed e) limits)
 
 -- ---- every answer
 
@@ -386,8 +348,8 @@ unfolding endingOf
 ending-most (Refused r) file h = h r refl .1
 ending-most (Done at) file h = unless-most 8 (leb (length file) at) (omega arith)
 
--- what holds of every case that is accepted and of every refusal from 1 to 10 holds of whatever a file is answered with
-module _ (Holds : Read → Type 0) (accepts : (c : Case) → Holds (accepting c)) (refuses : (r : Refusal) → Listed (r .number) → Holds (refusing r)) where
+-- what holds of every case that is unrefused and of every refusal from 1 to 10 holds of whatever a file is answered with
+module _ (Holds : Read → Type 0) (accepts : (c : Case) → Holds (giving c)) (refuses : (r : Refusal) → Listed (r .number) → Holds (refusing r)) where
   -- of what follows a refusal that may be none
   judging-holds : (r : Refusal) (more : Read) → r .number ≤ 10 → Holds more → Holds (judging r more)
   judging-holds r more most h = go (ℕ-discrete (r .number) 0)
@@ -404,21 +366,21 @@ module _ (Holds : Read → Type 0) (accepts : (c : Case) → Holds (accepting c)
 
   -- of what follows the terms
   body-holds : (g : Grid) (file : List ℕ) (at : ℕ) → Holds (bodyOf g file at)
-  unfolding bodyOf settledOf
+  unfolding bodyOf storedOf
   body-holds g file at =
       let c = caseFrom g file at in
-      judging-holds (endingOf (slotsFrom g file at .run) file) (settledOf c) (ending-most (slotsFrom g file at .run) file (body-telling Listed early-listed g file at))
-      (judging-holds (firstRefusal (limitsOf c)) (accepting c) (limits-most c) (accepts c))
+      judging-holds (endingOf (slotsFrom g file at .run) file) (storedOf c) (ending-most (slotsFrom g file at .run) file (body-telling Listed early-listed g file at))
+      (judging-holds (firstRefusal (limitsOf c)) (giving c) (limits-most c) (accepts c))
 
   -- and of the whole file
   pub read-holds : (file : List ℕ) (columns rows slots : List ℤ) → Holds (readingOf file columns rows slots)
-  unfolding readingOf termsOf
+  unfolding readingOf afterCounts
   read-holds file columns rows slots =
       let head = fillOf (Done 0) Counts file counts in
       let g = countedOf (head .values) in
       let c = caseOf g columns rows slots in
-      after-holds (head .run) (λ at. judging (firstRefusal (shapeOf c)) (termsOf g file at)) (run-listed 0 Counts counts)
-      (λ at. judging-holds (firstRefusal (shapeOf c)) (termsOf g file at) (shape-most c)
+      after-holds (head .run) (λ at. judging (firstRefusal (shapeOf c)) (afterCounts g file at)) (run-listed 0 Counts counts)
+      (λ at. judging-holds (firstRefusal (shapeOf c)) (afterCounts g file at) (shape-most c)
       (let tail = fillOf (Done at) Terms file terms in
       let whole = termedOf g (tail .values) in
       after-holds (tail .run) (bodyOf whole file) (run-listed at Terms terms) (body-holds whole file)))

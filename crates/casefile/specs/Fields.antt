@@ -24,8 +24,8 @@ use Rattle.numbers.specs.declared.Number.the-variants as number
 
 -- "columns, rows; layers | 1..=64 each; 1..=8", "δ, whole | 1..=100", "water-table flag | 0, 1", "time step, days | 1..=36,525", "tolerance, litres/day |
 -- 0..=1,000,000,000", in the order "columns, rows, layers, δ, flag, step, tolerance"
-abbrev pub headRanges : List Range
-headRanges =
+abbrev pub recordRanges : List Range
+recordRanges =
     between (pos 1) (pos mostAcross)
     ∷ between (pos 1) (pos mostAcross)
     ∷ between (pos 1) (pos mostLayers)
@@ -47,10 +47,10 @@ abbrev pub mostSlots : ℕ
 mostSlots = 8192
 
 -- the ends of a number of the record, counted from 0; 0 and 0 where there is no such number
-unfoldable pub headRange : ℕ → Range
-headRange n = getD headRanges n (between (pos 0) (pos 0))
+unfoldable pub recordRange : ℕ → Range
+recordRange n = getD recordRanges n (between (pos 0) (pos 0))
 
--- stage or floor, and boundary leakance
+-- "the two boundary slots": stage or floor, and boundary leakance
 abbrev pub isBoundarySlot : ℕ → Bool
 isBoundarySlot slot = leb 10 slot && leb slot 11
 
@@ -72,18 +72,18 @@ isSent (Slots block) done = slotSent done
 
 -- the ends of a number of a part, counted from 0; "for a slot its ends from the fixed table"
 unfoldable pub endsOf : Part → ℕ → Range
-endsOf Counts n = headRange n
-endsOf Terms n = headRange (counts + n)
+endsOf Counts n = recordRange n
+endsOf Terms n = recordRange (counts + n)
 endsOf Widths n = between (pos 1) (pos mostWidth)
 endsOf (Slots block) n = rangeOf n
 
 -- 3: "a count or the block total is out of range"; 4: "δ, flag, step or tolerance is out of range"; 5: "a width is out of range"; 6: "a slot is out of range". "Refusals 6, 9, 10, 13
 -- and 14 name the first block at fault"; "Others name 0."
-unfoldable pub refusalOf : Part → Refusal
-refusalOf Counts = refusal 3 0
-refusalOf Terms = refusal 4 0
-refusalOf Widths = refusal 5 0
-refusalOf (Slots block) = refusal 6 block
+unfoldable pub partRefusal : Part → Refusal
+partRefusal Counts = refusal 3 0
+partRefusal Terms = refusal 4 0
+partRefusal Widths = refusal 5 0
+partRefusal (Slots block) = refusal 6 block
 
 -- "Signed fields (base, pumpage, screens, stage or floor, heads)": those that can be below zero
 unfoldable pub meantOf : ℤ → ℕ → ℤ
@@ -101,7 +101,7 @@ numberJudged (number.Value n next) ends r = judgedIn (meantOf (ends .lower) n) n
 
 -- the next number of a part, from a place, after those so far; one that is not sent is 0
 unfoldable pub fieldAt : Part → List ℕ → ℕ → List ℤ → Got
-fieldAt part file at done = cond (isSent part done) (numberJudged (numberAt file at) (endsOf part (length done)) (refusalOf part)) (Value (pos 0) at)
+fieldAt part file at done = cond (isSent part done) (numberJudged (numberAt file at) (endsOf part (length done)) (partRefusal part)) (Value (pos 0) at)
 
 -- ---- what is required of numbers that were read: each of the first n within its ends
 abbrev pub Within : Part → ℕ → List ℤ → Type 0

@@ -1,14 +1,12 @@
 -- A case file, read whole (document 01, "The case file"): "Order: columns, rows, layers, δ, flag, step, tolerance, column widths, row widths, then per block ..".
-use mathlib.Core.Bool.{cond}
 use mathlib.Core.List.{List, []}
 use Prim.Native.Nat.{ℕ}
-use lib.Dec.{eqb}
 use lib.IntN.{natAbs, pos, ℤ}
 use lib.ListN.{getD}
 use Rattle.grid.specs.declared.Grid.{Grid}
 use Rattle.grid.specs.Place.{blocksOf}
 use Rattle.slices.specs.declared.Refusal.{Refusal}
-use Rattle.slices.specs.Slices.{Case, caseOf, firstRefusal, none, shapeOf}
+use Rattle.slices.specs.Slices.{Case, caseOf, firstRefusal, none, shapeOf, unlessRefused}
 use Rattle.wellformed.specs.Limits.{limitsOf}
 use Rattle.casefile.specs.declared.Answer.{Answer}
 use Rattle.casefile.specs.declared.fields.Part.the-variants.{Counts, Terms, Widths}
@@ -28,13 +26,13 @@ pub record Read : Type 0 where
 abbrev pub noGrid : Grid
 noGrid = record { columns = 0; rows = 0; layers = 0; delta = pos 0; flag = 0; step = pos 0; tolerance = pos 0 }
 
--- demand 1: "A refusal gives its number and block, and no lent slice changes by it."
+-- the client's demand 1: "A refusal gives its number and block, and no lent slice changes by it."
 abbrev pub refusing : Refusal → Read
 refusing r = record { answer = record { refusal = r; grid = noGrid }; columns = []; rows = []; slots = [] }
 
 -- what follows a refusal that may be none
 unfoldable pub judging : Refusal → Read → Read
-judging r more = cond (eqb (r .number) 0) more (refusing r)
+judging r more = unlessRefused r more (refusing r)
 
 -- what follows a run
 unfoldable pub after : Run → (ℕ → Read) → Read
@@ -42,13 +40,14 @@ after (Refused r) more = refusing r
 after (Done at) more = more at
 
 -- a case that is not refused
-abbrev pub accepting : Case → Read
-accepting c = record { answer = record { refusal = none; grid = c .grid }; columns = c .columns; rows = c .rows; slots = c .slots }
+abbrev pub giving : Case → Read
+giving c = record { answer = record { refusal = none; grid = c .grid }; columns = c .columns; rows = c .rows; slots = c .slots }
 
--- the record of a case by its three counts, and with its four terms
+-- "Order: columns, rows, layers, δ, flag, step, tolerance": the record of a case by its three counts
 unfoldable pub countedOf : List ℤ → Grid
 countedOf v = record { columns = natAbs (getD v 0 (pos 0)); rows = natAbs (getD v 1 (pos 0)); layers = natAbs (getD v 2 (pos 0)); delta = pos 0; flag = 0; step = pos 0; tolerance = pos 0 }
 
+-- "δ, flag, step, tolerance": the record with its four terms
 unfoldable pub termedOf : Grid → List ℤ → Grid
 termedOf g v = record { columns = g .columns; rows = g .rows; layers = g .layers; delta = getD v 0 (pos 0); flag = natAbs (getD v 1 (pos 0)); step = getD v 2 (pos 0); tolerance = getD v 3 (pos 0) }
 
@@ -67,20 +66,20 @@ unfoldable pub caseFrom : Grid → List ℕ → ℕ → Case
 caseFrom g file at = caseOf g (columnsFrom g file at .values) (rowsFrom g file at .values) (slotsFrom g file at .values)
 
 -- "9, 10": a case that was read, judged by these
-unfoldable pub settledOf : Case → Read
-settledOf c = judging (firstRefusal (limitsOf c)) (accepting c)
+unfoldable pub storedOf : Case → Read
+storedOf c = judging (firstRefusal (limitsOf c)) (giving c)
 
 -- what follows the terms: "then 8, 9, 10"
 unfoldable pub bodyOf : Grid → List ℕ → ℕ → Read
-bodyOf g file at = judging (endingOf (slotsFrom g file at .run) file) (settledOf (caseFrom g file at))
+bodyOf g file at = judging (endingOf (slotsFrom g file at .run) file) (storedOf (caseFrom g file at))
 
--- what follows the counts
-unfoldable pub termsOf : Grid → List ℕ → ℕ → Read
-termsOf g file at = let f = fillOf (Done at) Terms file terms in after (f .run) (bodyOf (termedOf g (f .values)) file)
+-- what follows the counts: "δ, flag, step, tolerance", and then the rest
+unfoldable pub afterCounts : Grid → List ℕ → ℕ → Read
+afterCounts g file at = let f = fillOf (Done at) Terms file terms in after (f .run) (bodyOf (termedOf g (f .values)) file)
 
 -- the whole file: "3 for the total, then 7, come straight after layers". Of the lent slices only their lengths are asked.
 unfoldable pub readingOf : List ℕ → List ℤ → List ℤ → List ℤ → Read
 readingOf file columns rows slots =
     let f = fillOf (Done 0) Counts file counts in
     let g = countedOf (f .values) in
-    after (f .run) (λ at. judging (firstRefusal (shapeOf (caseOf g columns rows slots))) (termsOf g file at))
+    after (f .run) (λ at. judging (firstRefusal (shapeOf (caseOf g columns rows slots))) (afterCounts g file at))

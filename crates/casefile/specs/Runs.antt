@@ -25,10 +25,6 @@ pub record Filled : Type 0 where
   pub run : Run
   pub values : List ℤ
 
--- some numbers over the front of a slice: "Room beyond what is needed is not touched."
-abbrev pub over : List ℤ → List ℤ → List ℤ
-over values slice = values ++ drop (length values) slice
-
 -- what follows a number: the rest of the run, or its end
 abbrev pub onward : Got → List ℤ → (ℤ → ℕ → Filled) → Filled
 onward (Value v next) done more = more v next
@@ -49,11 +45,12 @@ unfoldable pub ruled : Run → ℕ → Bool → Run
 ruled (Refused r) block holds = Refused r
 ruled (Done at) block holds = cond holds (Done at) (Refused (refusal 6 block))
 
--- the slots of a block, in the top layer or below it: number by number, each within its ends, and then all that they must hold
+-- "then per block K alone if 0, otherwise its slots in order": the slots of a block, in the top layer or below it, number by number, each within its
+-- ends, and then all that they must hold
 unfoldable pub blockFrom : Run → List ℕ → ℕ → Bool → Filled
 blockFrom from file block top = let f = fillOf from (Slots block) file slotsEach in record { run = ruled (f .run) block (slotsHold (f .values) top); values = f .values }
 
--- the slots of the first n blocks of a grid, in block order
+-- "then per block": the slots of the first n blocks of a grid, in block order
 unfoldable pub blocksFrom : Run → Grid → List ℕ → ℕ → Filled
 blocksFrom from g file zero = record { run = from; values = [] }
 blocksFrom from g file (suc n) =

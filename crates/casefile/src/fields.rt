@@ -5,12 +5,12 @@ ghost use lib.ListN.{length};
 ghost use Rattle.numbers.specs.Numbers.{numberAt};
 ghost use Rattle.casefile.specs.Fields.{
   mostSlots,
-  headRange,
+  recordRange,
   isBoundarySlot,
   slotSent,
   isSent,
   endsOf,
-  refusalOf,
+  partRefusal,
   meantOf,
   judgedIn,
   numberJudged,
@@ -29,7 +29,7 @@ use slices::Refusal;
 use slices::WIDTHS;
 use slots::ranges::range_of;
 use slots::rules::OPEN_KINDS;
-use slots::units::SLOTS;
+use slots::units::SLOTS_EACH;
 use whole::ranges::Range;
 use whole::ranges::in_range;
 
@@ -54,10 +54,10 @@ pub const COUNTS: usize = 3;
 pub const TERMS: usize = 4;
 
 // The slots of the most blocks: more than any part of a file has.
-pub const MOST_SLOTS: usize = SLOTS * MOST_BLOCKS;
+pub const MOST_SLOTS: usize = SLOTS_EACH * MOST_BLOCKS;
 
 // The ends of the numbers of a case's record: "columns, rows, layers, δ, flag, step, tolerance".
-const HEAD_RANGES: [Range; 7] = [
+const RECORD_RANGES: [Range; 7] = [
     // columns
     Range {
         lower: 1,
@@ -93,11 +93,11 @@ const HEAD_RANGES: [Range; 7] = [
 ];
 
 // The ends of a number of the record, counted from 0; 0 and 0 where there is no such number.
-fn head_range(n: usize) -> Range
-    ensures { λ r. ⌜ r ≡ headRange n ⌝ }
+fn record_range(n: usize) -> Range
+    ensures { λ r. ⌜ r ≡ recordRange n ⌝ }
 {
     if n < COUNTS + TERMS {
-        HEAD_RANGES[n]
+        RECORD_RANGES[n]
     } else {
         Range { lower: 0, upper: 0 }
     }
@@ -140,22 +140,22 @@ fn is_sent(part: Part, done: &[i64]) -> bool
     }
 }
 
-// The ends of a number of a part, counted from 0. Inner: a part has few numbers.
+// The ends of a number of a part, counted from 0. Inner: n is at most 8,192.
 fn ends_of(part: Part, n: usize) -> Range
     requires { ⌜ n ≤ mostSlots ⌝ }
     ensures { λ r. ⌜ r ≡ endsOf part n ⌝ }
 {
     match part {
-        Part::Counts => head_range(n),
-        Part::Terms => head_range(COUNTS + n),
+        Part::Counts => record_range(n),
+        Part::Terms => record_range(COUNTS + n),
         Part::Widths => WIDTHS,
         Part::Slots { block: _ } => range_of(n),
     }
 }
 
 // What a number of a part is refused with outside its ends.
-fn refusal_of(part: Part) -> Refusal
-    ensures { λ r. ⌜ r ≡ refusalOf part ⌝ }
+fn part_refusal(part: Part) -> Refusal
+    ensures { λ r. ⌜ r ≡ partRefusal part ⌝ }
 {
     match part {
         Part::Counts => Refusal {
@@ -192,10 +192,10 @@ fn judged_in(value: i64, next: usize, ends: Range, refusal: Refusal) -> Got
     Got::Refused { refusal }
 }
 
-// A number that is sent, at a place of the file: "1 or 2, then its range". It is the one after n of its part. Inner: a part has few numbers.
+// A number that is sent, at a place of the file: "1 or 2, then its range". It is the one after n of its part. Inner: n is at most 8,192.
 fn sent_at(file: &[u8], at: usize, part: Part, n: usize) -> Got
     requires { ⌜ n ≤ mostSlots ⌝ }
-    ensures { λ r. ⌜ r ≡ numberJudged (numberAt (now (file .entry)) at) (endsOf part n) (refusalOf part) ⌝ }
+    ensures { λ r. ⌜ r ≡ numberJudged (numberAt (now (file .entry)) at) (endsOf part n) (partRefusal part) ⌝ }
 {
     match read_number(file, at) {
         Number::Ended => Got::Refused {
@@ -213,12 +213,13 @@ fn sent_at(file: &[u8], at: usize, part: Part, n: usize) -> Got
         Number::Value { value, next } => {
             let ends = ends_of(part, n);
             let means = meant(value, ends.lower);
-            judged_in(means, next, ends, refusal_of(part))
+            judged_in(means, next, ends, part_refusal(part))
         }
     }
 }
 
-// The next number of a part, from a place, after the numbers so far; one that is not sent is 0. Inner: they are few.
+// The next number of a part, from a place, after the numbers so far; one that is not sent is 0. Inner: there are at most
+// 8,192 of them.
 pub fn field_at(file: &[u8], at: usize, part: Part, done: &[i64]) -> Got
     requires { ⌜ length (now done) ≤ mostSlots ⌝ }
     ensures { λ r. ⌜ r ≡ fieldAt part (now (file .entry)) at (now (done .entry)) ⌝ }

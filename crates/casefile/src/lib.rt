@@ -5,19 +5,19 @@ pub mod runs;
 ghost use mathlib.Core.Path.{_≡_};
 ghost use Prim.Native.Nat.{_≤_};
 ghost use lib.ListN.{length};
+ghost use Rattle.whole.specs.Lent.{over};
 ghost use Rattle.grid.specs.Judging.{Termed};
 ghost use Rattle.grid.specs.Place.{Counted};
 ghost use Rattle.slices.specs.Slices.{caseOf, Judged, Roomy};
-ghost use Rattle.casefile.specs.Runs.{over};
 ghost use Rattle.casefile.specs.declared.fields.Part.the-variants.{Counts, Terms};
 ghost use Rattle.casefile.specs.Fields.{Within};
 ghost use Rattle.casefile.specs.Reading.{
   refusing,
   countedOf,
   termedOf,
-  settledOf,
+  storedOf,
   bodyOf,
-  termsOf,
+  afterCounts,
   readingOf,
 };
 use fields::COUNTS;
@@ -33,8 +33,9 @@ use runs::fill;
 use runs::fill_blocks;
 use slices::Refusal;
 use slices::shape;
-use slots::units::SLOTS;
+use slots::units::SLOTS_EACH;
 use wellformed::judge_limits;
+use whole::lent::copy_front;
 
 // A refusal, or the record of a case beside number 0. The record beside a refusal is all 0.
 pub struct Answer {
@@ -97,19 +98,9 @@ fn termed(g: Grid, terms: &[i64]) -> Grid
     }
 }
 
-// Some numbers over the front of a slice. Inner: it has room.
-pub fn copy_front(from: &[i64], to: &mut [i64])
-    requires { ⌜ length (now from) ≤ length (now to) ⌝ }
-    ensures { λ _. ⌜ now (to .exit) ≡ over (now (from .entry)) (now (to .entry)) ⌝ }
-{
-    for k in 0..from.len() {
-        to[k] = from[k];
-    }
-}
-
 // "9, 10", and the numbers of a case that neither refuses over the front of the lent slices. Inner: 3, 7, 4, 5 and 6 do not refuse the case, and the
 // lent slices have room.
-fn settle(
+fn store(
     g: Grid,
     own_columns: &[i64],
     own_rows: &[i64],
@@ -122,10 +113,10 @@ fn settle(
     requires { ⌜ length (now «own_columns») ≤ length (now columns) ⌝ }
     requires { ⌜ length (now «own_rows») ≤ length (now rows) ⌝ }
     requires { ⌜ length (now «own_slots») ≤ length (now slots) ⌝ }
-    ensures answer { λ r. ⌜ r ≡ settledOf (caseOf g (now («own_columns» .entry)) (now («own_rows» .entry)) (now («own_slots» .entry))) .answer ⌝ }
-    ensures columns { λ _. ⌜ now (columns .exit) ≡ over (settledOf (caseOf g (now («own_columns» .entry)) (now («own_rows» .entry)) (now («own_slots» .entry))) .columns) (now (columns .entry)) ⌝ }
-    ensures rows { λ _. ⌜ now (rows .exit) ≡ over (settledOf (caseOf g (now («own_columns» .entry)) (now («own_rows» .entry)) (now («own_slots» .entry))) .rows) (now (rows .entry)) ⌝ }
-    ensures slots { λ _. ⌜ now (slots .exit) ≡ over (settledOf (caseOf g (now («own_columns» .entry)) (now («own_rows» .entry)) (now («own_slots» .entry))) .slots) (now (slots .entry)) ⌝ }
+    ensures answer { λ r. ⌜ r ≡ storedOf (caseOf g (now («own_columns» .entry)) (now («own_rows» .entry)) (now («own_slots» .entry))) .answer ⌝ }
+    ensures columns { λ _. ⌜ now (columns .exit) ≡ over (storedOf (caseOf g (now («own_columns» .entry)) (now («own_rows» .entry)) (now («own_slots» .entry))) .columns) (now (columns .entry)) ⌝ }
+    ensures rows { λ _. ⌜ now (rows .exit) ≡ over (storedOf (caseOf g (now («own_columns» .entry)) (now («own_rows» .entry)) (now («own_slots» .entry))) .rows) (now (rows .entry)) ⌝ }
+    ensures slots { λ _. ⌜ now (slots .exit) ≡ over (storedOf (caseOf g (now («own_columns» .entry)) (now («own_rows» .entry)) (now («own_slots» .entry))) .slots) (now (slots .entry)) ⌝ }
 {
     let refusal = judge_limits(g, own_columns, own_rows, own_slots);
     if refusal.number != 0 {
@@ -165,7 +156,7 @@ fn read_body(
     let mut own_slots = [0i64; MOST_SLOTS];
     let across = g.columns;
     let along = g.rows;
-    let total = SLOTS * blocks(g);
+    let total = SLOTS_EACH * blocks(g);
     let start = Run::Done { next: at };
     let columns_read = fill(file, start, Part::Widths, across, &mut own_columns);
     let rows_read = fill(file, columns_read, Part::Widths, along, &mut own_rows);
@@ -174,7 +165,7 @@ fn read_body(
     if end.number != 0 {
         return refused(end);
     }
-    settle(
+    store(
         g,
         &own_columns[..across],
         &own_rows[..along],
@@ -196,10 +187,10 @@ fn read_terms(
 ) -> Answer
     requires { ⌜ Counted g ⌝ }
     requires { ⌜ Roomy (caseOf g (now columns) (now rows) (now slots)) ⌝ }
-    ensures answer { λ r. ⌜ r ≡ termsOf g (now (file .entry)) at .answer ⌝ }
-    ensures columns { λ _. ⌜ now (columns .exit) ≡ over (termsOf g (now (file .entry)) at .columns) (now (columns .entry)) ⌝ }
-    ensures rows { λ _. ⌜ now (rows .exit) ≡ over (termsOf g (now (file .entry)) at .rows) (now (rows .entry)) ⌝ }
-    ensures slots { λ _. ⌜ now (slots .exit) ≡ over (termsOf g (now (file .entry)) at .slots) (now (slots .entry)) ⌝ }
+    ensures answer { λ r. ⌜ r ≡ afterCounts g (now (file .entry)) at .answer ⌝ }
+    ensures columns { λ _. ⌜ now (columns .exit) ≡ over (afterCounts g (now (file .entry)) at .columns) (now (columns .entry)) ⌝ }
+    ensures rows { λ _. ⌜ now (rows .exit) ≡ over (afterCounts g (now (file .entry)) at .rows) (now (rows .entry)) ⌝ }
+    ensures slots { λ _. ⌜ now (slots .exit) ≡ over (afterCounts g (now (file .entry)) at .slots) (now (slots .entry)) ⌝ }
 {
     let mut terms = [0i64; TERMS];
     let start = Run::Done { next: at };

@@ -3,18 +3,11 @@ ghost use mathlib.Core.Path.{_≡_};
 ghost use mathlib.Core.List.{[]};
 ghost use Prim.Native.Nat.{_*_, _≤_};
 ghost use lib.ListN.{length};
+ghost use Rattle.whole.specs.Lent.{over};
 ghost use Rattle.grid.specs.Place.{Counted, blocksOf};
 ghost use Rattle.slots.specs.Rules.{slotsHold};
 ghost use Rattle.casefile.specs.Fields.{mostSlots};
-ghost use Rattle.casefile.specs.Runs.{
-  over,
-  fillFrom,
-  fillOf,
-  ruled,
-  blockFrom,
-  blocksFrom,
-  endingOf,
-};
+ghost use Rattle.casefile.specs.Runs.{fillFrom, fillOf, ruled, blockFrom, blocksFrom, endingOf};
 use super::fields::Got;
 use super::fields::Part;
 use super::fields::field_at;
@@ -23,7 +16,7 @@ use grid::place::blocks;
 use grid::place::is_top;
 use slices::Refusal;
 use slots::rules::slots_hold;
-use slots::units::SLOTS;
+use slots::units::SLOTS_EACH;
 
 // How a run ended: the place after its last number, or a refusal.
 pub enum Run {
@@ -90,7 +83,7 @@ fn fill_block(file: &[u8], from: Run, block: usize, top: bool, out: &mut [i64]) 
     ensures run { λ r. ⌜ r ≡ blockFrom from (now (file .entry)) block top .run ⌝ }
     ensures values { λ _. ⌜ now (out .exit) ≡ over (blockFrom from (now (file .entry)) block top .values) (now (out .entry)) ⌝ }
 {
-    let run = fill(file, from, Part::Slots { block }, SLOTS, out);
+    let run = fill(file, from, Part::Slots { block }, SLOTS_EACH, out);
     rule(run, block, top, out)
 }
 
@@ -105,7 +98,7 @@ pub fn fill_blocks(file: &[u8], from: Run, g: Grid, out: &mut [i64]) -> Run
     let mut run = from;
     let total = blocks(g);
     for block in 0..total {
-        let at = SLOTS * block;
+        let at = SLOTS_EACH * block;
         let next = fill_block(file, run, block + 1, is_top(g, block), &mut out[at..]);
         run = next;
     }

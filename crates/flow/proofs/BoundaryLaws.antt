@@ -6,7 +6,7 @@ use lib.IntN.{_-ℤ_, pos, ℤ}
 use lib.Signed.{_≤ℤ_, leZ}
 use Rattle.whole.specs.Sum.{only}
 use Rattle.whole.specs.Whole.{Abs, In}
-use Rattle.whole.proofs.RangeLaws.{high, leaf, low, ranges, within}
+use Rattle.whole.proofs.RangeLaws.{leaf, ranges, within}
 use Rattle.whole.proofs.SumLaws.{only-abs}
 use Rattle.grid.specs.declared.Grid.{Grid}
 use Rattle.grid.specs.Judging.{Termed}

@@ -1,5 +1,4 @@
 -- What callers cite of leakage: the fluids named, and bounds. Assumes nothing.
-use mathlib.Core.Bool.{Bool, cond, false, true}
 use Prim.Native.Nat.{_≤_, suc, zero, ℕ}
 use native.Mathlib.Omega.{arith}
 use lib.IntN.{pos, ℤ}
@@ -7,29 +6,26 @@ use lib.Signed.{ltZ}
 use borrow.Author.Tests.{ne-eqb}
 use Rattle.whole.specs.Whole.{Abs, In}
 use Rattle.whole.proofs.RangeLaws.{leaf, ranges, within}
+use Rattle.whole.proofs.SearchLaws.{cond-both}
 use Rattle.grid.specs.declared.Grid.{Grid}
 use Rattle.grid.specs.Judging.{Termed}
 use Rattle.block.specs.declared.Fluids.{Fluids}
 use Rattle.block.specs.Fluids.{Heads, fresh, salt, togetherOf}
 use Rattle.block.specs.Units.{Level, mostEquivalent}
 use Rattle.block.proofs.DensityLaws.{equivalent-in}
-use Rattle.flow.specs.declared.leakage.Waters.{Waters}
-use Rattle.flow.specs.Leakage.{WatersIn, differenceOf, freshHeadOf, leakageOf, lowermostOf, uppermostOf}
+use Rattle.flow.specs.declared.leakage.LeakageSide.{LeakageSide}
+use Rattle.flow.specs.Leakage.{LeakageSideIn, differenceOf, freshHeadOf, leakageOf, lowermostOf, uppermostOf}
 use Rattle.flow.specs.Litres.{litresOf, mostConductance, mostDifference, mostFlow}
 use Rattle.flow.proofs.LitresLaws.{leaving-in, litres-in}
 
 -- a named fluid is fresh or salt
-one-of : (b : Bool) (m n : ℕ) → m ≤ salt → n ≤ salt → cond b m n ≤ salt
-one-of true m n h k = h
-one-of false m n h k = k
-
 pub uppermost-is : (t : Fluids) → uppermostOf t ≤ salt
 unfolding uppermostOf
-uppermost-is t = one-of (ltZ (pos 0) (t .fresh)) fresh salt (omega arith) (omega arith)
+uppermost-is t = cond-both (λ (n : ℕ). n ≤ salt) (ltZ (pos 0) (t .fresh)) {x = fresh} {y = salt} (omega arith) (omega arith)
 
 pub lowermost-is : (t : Fluids) → lowermostOf t ≤ salt
 unfolding lowermostOf
-lowermost-is t = one-of (ltZ (pos 0) (t .salt)) salt fresh (omega arith) (omega arith)
+lowermost-is t = cond-both (λ (n : ℕ). n ≤ salt) (ltZ (pos 0) (t .salt)) {x = salt} {y = fresh} (omega arith) (omega arith)
 
 -- a head in fresh water
 pub fresh-head-in : (g : Grid) (h : Fluids) (fluid : ℕ) (z : ℤ) → Termed g → Heads h → Level z → Abs mostEquivalent (freshHeadOf g h fluid z)
@@ -46,7 +42,7 @@ difference-in g lower upper (suc zero) (suc zero) z t k l p q r = within (search
 difference-in g lower upper (suc zero) (suc (suc n)) z t k l p q r = absurd (omega arith)
 difference-in g lower upper (suc (suc m)) (suc n) z t k l p q r = absurd (omega arith)
 
-pub leakage-in : (g : Grid) (c : ℤ) (lower upper : Waters) (z : ℤ) → Termed g → In (pos 0) (pos mostConductance) c → WatersIn lower → WatersIn upper → Level z → Abs mostFlow (leakageOf g c lower upper z)
+pub leakage-in : (g : Grid) (c : ℤ) (lower upper : LeakageSide) (z : ℤ) → Termed g → In (pos 0) (pos mostConductance) c → LeakageSideIn lower → LeakageSideIn upper → Level z → Abs mostFlow (leakageOf g c lower upper z)
 unfolding leakageOf
 leakage-in g c lower upper z t h k l r =
     let low = uppermostOf (lower .thickness) in

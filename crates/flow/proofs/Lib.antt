@@ -1,6 +1,6 @@
--- Laws of flows, and worked numbers. They hold nothing to believe.
+-- Laws of flows. They hold nothing to believe.
 pub mod LitresLaws
 pub mod LateralLaws
 pub mod LeakageLaws
 pub mod BoundaryLaws
-pub mod WorkedTheorems
+pub mod OutcomeTheorems

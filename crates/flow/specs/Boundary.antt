@@ -1,4 +1,4 @@
--- Recharge, rivers and seas (document 01, "Leakage, river and sea").
+-- Recharge, rivers and seas (document 01, "Leakage, river and sea"), in litres a day.
 use mathlib.Core.Bool.{Bool, _&&_, cond, not}
 use Prim.Native.Nat.{ℕ}
 use lib.Dec.{eqb}
@@ -11,13 +11,13 @@ use Rattle.slots.specs.Rules.{isOpen}
 use Rattle.block.specs.declared.Fluids.{Fluids}
 use Rattle.block.specs.Density.{seaHeadOf}
 use Rattle.block.specs.Fluids.{fresh, newHeads}
-use Rattle.block.specs.Geometry.{aquiferTopOf, hasTable}
+use Rattle.block.specs.Geometry.{aquiferTopOf, hasWaterTable}
 use Rattle.flow.specs.Leakage.{freshHeadOf, uppermostOf}
 use Rattle.flow.specs.Litres.{litresOf, overAreaOf}
 
 -- "In the top layer with flag 1 and Φf below the aquifer top"
 unfoldable pub belowTop : Grid → Block → Bool → Bool
-belowTop g b top = hasTable g top && ltZ (b .«new_fresh») (aquiferTopOf b)
+belowTop g b top = hasWaterTable g top && ltZ (b .«new_fresh») (aquiferTopOf b)
 
 -- "recharge enters as fresh water, floor(rate·area/1,000)". "Otherwise there is no recharge".
 unfoldable pub rechargeOf : Grid → Block → Bool → ℤ → ℕ → ℤ
@@ -36,7 +36,7 @@ exchangeOf g b area upper = litresOf (overAreaOf (b .«boundary_leakance») area
 unfoldable pub gainOf : ℕ → ℕ → ℤ → ℤ
 gainOf upper fluid flow = only (eqb upper fluid) flow
 
--- what a block gains in a fluid; under a water table "rivers and seas exchange nothing"
+-- what a block gains in a fluid by its river or sea; with Φf below the aquifer top "rivers and seas exchange nothing"
 unfoldable pub boundaryOf : Grid → Block → Bool → ℤ → Fluids → ℕ → ℤ
 boundaryOf g b top area t fluid =
     only (isOpen b && not (belowTop g b top))

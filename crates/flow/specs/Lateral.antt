@@ -1,4 +1,5 @@
--- A lateral face (document 01): "Neighbours in a row or column of one layer". The low side is the block with the lower number.
+-- A lateral face (document 01): "Neighbours in a row or column of one layer". The low side is the block with the lower number. Widths are in
+-- metres, K in mm/day, thicknesses and heads in ticks, conductances in litres a day for each metre of head difference, flows in litres a day.
 use mathlib.Core.Bool.{cond}
 use lib.IntN.{_*ℤ_, _+ℤ_, _-ℤ_, pos, ℤ}
 use lib.Signed.{ltZ}
@@ -41,6 +42,7 @@ lateralOf f a b p = leavingOf (a .thickness) (b .thickness) (litresOf (faceCondu
 
 -- ---- what is required of a face
 
+-- a column or row width, metres
 abbrev pub Width : ℤ → Type 0
 Width z = In (pos 1) (pos mostWidth) z
 

@@ -1,4 +1,5 @@
--- Leakage (document 01, "Leakage, river and sea"): "Leakage joins a block and the one directly above".
+-- Leakage (document 01, "Leakage, river and sea"): "Leakage joins a block and the one directly above". Heads, thicknesses
+-- and levels are in ticks, the flow in litres a day.
 use mathlib.Core.Bool.{cond}
 use Prim.Native.Nat.{suc, zero, ℕ}
 use lib.Dec.{eqb}
@@ -8,7 +9,7 @@ use Rattle.grid.specs.declared.Grid.{Grid}
 use Rattle.block.specs.declared.Fluids.{Fluids}
 use Rattle.block.specs.Density.{freshEquivalentOf}
 use Rattle.block.specs.Fluids.{Heads, Thick, fresh, inFluid, salt, togetherOf}
-use Rattle.flow.specs.declared.leakage.Waters.{Waters}
+use Rattle.flow.specs.declared.leakage.LeakageSide.{LeakageSide}
 use Rattle.flow.specs.Litres.{leavingOf, litresOf}
 
 -- "Fluid of the lower block: fresh if its Bf > 0, else salt."
@@ -32,12 +33,12 @@ differenceOf g lower upper low high level =
     (freshHeadOf g lower low level -ℤ freshHeadOf g upper high level)
 
 -- "flow = cut(C·difference/4,096)", from the lower to the upper block. "None leaves a block with both thicknesses 0."
-unfoldable pub leakageOf : Grid → ℤ → Waters → Waters → ℤ → ℤ
+unfoldable pub leakageOf : Grid → ℤ → LeakageSide → LeakageSide → ℤ → ℤ
 leakageOf g conductance lower upper level =
     leavingOf (togetherOf (lower .thickness)) (togetherOf (upper .thickness))
     (litresOf conductance (differenceOf g (lower .heads) (upper .heads) (uppermostOf (lower .thickness)) (lowermostOf (upper .thickness)) level))
 
 -- what is required of a block that leaks
-pub record WatersIn (w : Waters) : Type 0 where
+pub record LeakageSideIn (w : LeakageSide) : Type 0 where
   pub heads : Heads (w .heads)
   pub thickness : Thick (w .thickness)

@@ -1,3 +1,4 @@
+-- The definitions of `flow`, for the crates above.
 pub mod Litres
 pub mod Lateral
 pub mod Leakage

@@ -1,4 +1,5 @@
--- From conductance and head difference to litres a day (document 01, "A lateral face", "Leakage, river and sea").
+-- From conductance and head difference to litres a day (document 01, "A lateral face", "Leakage, river and sea"). A conductance is in litres a day
+-- for each metre of head difference, and a difference is in ticks.
 use mathlib.Core.Bool.{cond}
 use Prim.Native.Nat.{ℕ}
 use lib.IntN.{_*ℤ_, pos, ℤ}
@@ -19,7 +20,7 @@ mostDifference = 20971520
 abbrev pub mostRate : ℕ
 mostRate = 1000000
 
--- what the greatest rate comes to over the greatest area: 1,000,000 · 4,096² / 1,000
+-- what the greatest rate comes to over the greatest area, a conductance or litres a day: 1,000,000 · 4,096² / 1,000
 abbrev pub mostOverArea : ℕ
 mostOverArea = 16777216000
 

@@ -16,7 +16,7 @@ use super::litres::over_area;
 use block::Fluids;
 use block::density::sea_head;
 use block::geometry::aquifer_top;
-use block::geometry::has_table;
+use block::geometry::has_water_table;
 use block::new_heads;
 use block::units::FRESH;
 use grid::Grid;
@@ -28,13 +28,13 @@ fn below_top(g: Grid, block: Block, top: bool) -> bool
     requires { ⌜ Ends block ⌝ }
     ensures { λ r. ⌜ r ≡ belowTop g block top ⌝ }
 {
-    if has_table(g, top) {
+    if has_water_table(g, top) {
         return block.new_fresh < aquifer_top(block);
     }
     false
 }
 
-// What recharge brings to a block in a fluid, litres a day: "recharge enters as fresh water". Inner: slots and area are in range.
+// What recharge brings to a block in a fluid, litres a day, by its area in m²: "recharge enters as fresh water". Inner: slots and area are in range.
 pub fn recharge(g: Grid, block: Block, top: bool, area: i64, fluid: usize) -> i64
     requires { ⌜ Ends block ⌝ }
     requires { ⌜ In (pos 0) (pos mostArea) area ⌝ }
@@ -60,7 +60,7 @@ fn boundary_head(g: Grid, block: Block) -> i64
     sea_head(g, block.level)
 }
 
-// What a river or a sea brings to a block whose upper fluid is `upper`, litres a day, negative where it takes.
+// What a river or a sea brings to a block whose upper fluid is `upper`, litres a day, negative where it takes, by the block's area in m².
 // Inner: the numbers are in range and the conductance is not refused with 10.
 fn exchange(g: Grid, block: Block, area: i64, upper: usize) -> i64
     requires { ⌜ Termed g ⌝ }
@@ -81,8 +81,8 @@ fn gain(upper: usize, fluid: usize, flow: i64) -> i64
     if upper == fluid { flow } else { 0 }
 }
 
-// What a block gains in a fluid through its river or sea, litres a day. Inner: the numbers are in range and the conductance is not refused
-// with 10.
+// What a block gains in a fluid through its river or sea, litres a day, by its area in m² and the thickness of each fluid in ticks.
+// Inner: the numbers are in range and the conductance is not refused with 10.
 pub fn boundary(g: Grid, block: Block, top: bool, area: i64, thickness: Fluids, fluid: usize) -> i64
     requires { ⌜ Termed g ⌝ }
     requires { ⌜ Ends block ⌝ }

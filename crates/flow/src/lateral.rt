@@ -58,7 +58,8 @@ pub fn face_k(face: Face, low: i64, high: i64) -> i64
     )
 }
 
-// "conductance C = floor(2·Kf·B·W / ((L1+L2)·4,096)) for face thickness B". Inner: widths, Kf and thickness are in range.
+// "conductance C = floor(2·Kf·B·W / ((L1+L2)·4,096)) for face thickness B", litres a day for each metre of head difference.
+// Inner: widths, Kf and thickness are in range.
 pub fn conductance(face: Face, k: i64, thickness: i64) -> i64
     requires { ⌜ FaceIn face ⌝ }
     requires { ⌜ In (pos 0) (pos mostFluidK) k ⌝ }

@@ -7,7 +7,7 @@ ghost use Rattle.grid.specs.Judging.{Termed};
 ghost use Rattle.block.specs.Units.{Level};
 ghost use Rattle.block.specs.Fluids.{salt, Heads, Thick};
 ghost use Rattle.flow.specs.Litres.{mostConductance};
-ghost use Rattle.flow.specs.Leakage.{uppermostOf, lowermostOf, freshHeadOf, differenceOf, leakageOf, WatersIn};
+ghost use Rattle.flow.specs.Leakage.{uppermostOf, lowermostOf, freshHeadOf, differenceOf, leakageOf, LeakageSideIn};
 use super::litres::leaving;
 use super::litres::litres;
 use block::Fluids;
@@ -18,8 +18,8 @@ use block::units::FRESH;
 use block::units::SALT;
 use grid::Grid;
 
-// What leakage sees of a block, in ticks.
-pub struct Waters {
+// What leakage sees of a block: the head and the thickness of each fluid, ticks.
+pub struct LeakageSide {
     pub heads: Fluids,
     pub thickness: Fluids,
 }
@@ -74,13 +74,13 @@ fn difference(g: Grid, lower: Fluids, upper: Fluids, low: usize, high: usize, le
     fresh_head(g, lower, low, level) - fresh_head(g, upper, high, level)
 }
 
-// The leakage from a lower to an upper block, litres a day, `level` being the lower block's top: "None leaves a block with both
-// thicknesses 0." Inner: all numbers are in range.
-pub fn leakage(g: Grid, conductance: i64, lower: Waters, upper: Waters, level: i64) -> i64
+// The leakage from a lower to an upper block, litres a day, `conductance` being in litres a day for each metre of head difference and `level`, in
+// ticks, the lower block's top: "None leaves a block with both thicknesses 0." Inner: all numbers are in range.
+pub fn leakage(g: Grid, conductance: i64, lower: LeakageSide, upper: LeakageSide, level: i64) -> i64
     requires { ⌜ Termed g ⌝ }
     requires { ⌜ In (pos 0) (pos mostConductance) conductance ⌝ }
-    requires { ⌜ WatersIn lower ⌝ }
-    requires { ⌜ WatersIn upper ⌝ }
+    requires { ⌜ LeakageSideIn lower ⌝ }
+    requires { ⌜ LeakageSideIn upper ⌝ }
     requires { ⌜ Level level ⌝ }
     ensures { λ r. ⌜ r ≡ leakageOf g conductance lower upper level ⌝ }
 {

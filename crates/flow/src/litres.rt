@@ -9,7 +9,8 @@ use block::units::TICKS;
 use whole::cut_div;
 use whole::floor_div;
 
-// "Flow = cut(C·(difference of that fluid's heads)/4,096) litres/day", the difference in ticks. Inner: both are in range.
+// "Flow = cut(C·(difference of that fluid's heads)/4,096) litres/day", the conductance in litres a day for each metre of head
+// difference, the difference in ticks. Inner: both are in range.
 pub fn litres(conductance: i64, difference: i64) -> i64
     requires { ⌜ In (pos 0) (pos mostConductance) conductance ⌝ }
     requires { ⌜ Abs mostDifference difference ⌝ }
@@ -35,7 +36,8 @@ pub fn leaving(low: i64, high: i64, flow: i64) -> i64
     0
 }
 
-// "floor(leakance·area/1,000)" and "floor(rate·area/1,000)", of 10^-6 a day or µm/day and m². Inner: both are in range.
+// "floor(leakance·area/1,000)" and "floor(rate·area/1,000)", of 10^-6 a day or µm/day and m²: litres a day for each metre of
+// head difference, or litres a day. Inner: both are in range.
 pub fn over_area(rate: i64, area: i64) -> i64
     requires { ⌜ In (pos 0) (pos mostRate) rate ⌝ }
     requires { ⌜ In (pos 0) (pos mostArea) area ⌝ }

@@ -1,11 +1,11 @@
--- What the record of a case tells where it is not refused. Assumes nothing.
+-- What the record of a case tells where it is not refused, and what tells that it is not. Assumes nothing.
 use mathlib.Core.Bool.{_&&_}
 use Prim.Native.Nat.{ℕ, _≤_}
-use lib.Dec.{T, leb, leb→le}
+use lib.Dec.{T, leb, leb→le, le→leb}
 use lib.IntN.{pos}
 use Rattle.whole.specs.Ranges.{between, inRange}
-use Rattle.whole.proofs.SearchLaws.{both}
-use Rattle.whole.proofs.WithinLaws.{range-in}
+use Rattle.whole.proofs.SearchLaws.{both, holds, joint}
+use Rattle.whole.proofs.WithinLaws.{range-in, in-ranged}
 use Rattle.grid.specs.declared.Grid.{Grid}
 use Rattle.grid.specs.Units.{mostAcross, mostLayers, mostBlocks, mostDelta, mostStep, mostTolerance}
 use Rattle.grid.specs.Place.{blocksOf, Counted}
@@ -48,3 +48,30 @@ terms-termed g t =
       step = range-in (between (pos 1) (pos mostStep)) (g .step) (d .0);
       tolerance = range-in (between (pos 0) (pos mostTolerance)) (g .tolerance) (d .1);
     }
+
+-- ---- and the other way round: what is in range is not refused
+
+within-counted : (n most : ℕ) → 1 ≤ n → n ≤ most → T (countWithin n most)
+within-counted n most h k = joint (leb 1 n) (leb n most) (le→leb 1 n h) (le→leb n most k)
+
+pub counted-counts : (g : Grid) → Counted g → T (countsHold g)
+unfolding countsHold
+counted-counts g h =
+    let columns = countWithin (g .columns) mostAcross in
+    let rows = countWithin (g .rows) mostAcross in
+    let layers = countWithin (g .layers) mostLayers in
+    let blocks = leb (blocksOf g) mostBlocks in
+    joint columns (rows && (layers && blocks)) (within-counted (g .columns) mostAcross (h .columns-some) (h .columns-most))
+    (joint rows (layers && blocks) (within-counted (g .rows) mostAcross (h .rows-some) (h .rows-most))
+    (joint layers blocks (within-counted (g .layers) mostLayers (h .layers-some) (h .layers-most)) (le→leb (blocksOf g) mostBlocks (h .blocks-most))))
+
+pub termed-terms : (g : Grid) → Termed g → T (termsHold g)
+unfolding termsHold
+termed-terms g h =
+    let delta = inRange (between (pos 1) (pos mostDelta)) (g .delta) in
+    let flag = leb (g .flag) 1 in
+    let step = inRange (between (pos 1) (pos mostStep)) (g .step) in
+    let tolerance = inRange (between (pos 0) (pos mostTolerance)) (g .tolerance) in
+    joint delta (flag && (step && tolerance)) (holds (in-ranged (between (pos 1) (pos mostDelta)) (g .delta) (h .delta)))
+    (joint flag (step && tolerance) (le→leb (g .flag) 1 (h .flag))
+    (joint step tolerance (holds (in-ranged (between (pos 1) (pos mostStep)) (g .step) (h .step))) (holds (in-ranged (between (pos 0) (pos mostTolerance)) (g .tolerance) (h .tolerance)))))

@@ -1,5 +1,5 @@
 -- Laws of places and links: block and place determine each other, a link's two ends are inside, a block's neighbours are those across its own three links and
--- the three that end in it, and a sum over blocks of what links bring is a sum over links.
+-- the three that end in it, and what a link that ends in a block brings is what the link behind it does.
 -- Assumes nothing.
 use mathlib.Core.Bool.{Bool, _&&_, false, not, true}
 use mathlib.Core.Logic.{_↔_, _⊎_, inl, inr}
@@ -10,12 +10,11 @@ use native.Mathlib.Nat.{div-add-mod', div-lt-iff-lt-mul, mod-lt}
 use native.Mathlib.Omega.{arith}
 use lib.Arith.{digits-div, digits-lt, digits-mod}
 use lib.Dec.{T, eqb, leb, leb→le, le→leb, ltb, ltb→lt, lt→ltb}
-use lib.IntN.{_+ℤ_, ℤ}
+use lib.IntN.{ℤ}
 use borrow.Author.Tests.{eq-eqb, ltb-false, ne-eqb}
-use Rattle.whole.specs.Sum.{back, only, sum}
-use Rattle.whole.proofs.RangeLaws.{low}
+use Rattle.whole.specs.Sum.{back, only}
 use Rattle.whole.proofs.SearchLaws.{both, holds, joint, same-test}
-use Rattle.whole.proofs.SumLaws.{only-add, only-and, only-off, sum-add, sum-move, sum-same}
+use Rattle.whole.proofs.SumLaws.{only-and}
 use Rattle.grid.specs.declared.Grid.{Grid}
 use Rattle.grid.specs.declared.place.Place.{Place}
 use Rattle.grid.specs.declared.place.Neighbour.the-variants.{At}
@@ -270,7 +269,7 @@ neighbours g counted d i j axis l m = (joined, touching)
     touching (inl h) = inl (link-beside g counted d i j axis l m (h .0) (h .1))
     touching (inr h) = inr (link-beside g counted d j i axis m l (rw (h .1) (previous-next g counted d i l (h .0))) (omega (arith, h .1, previous-low g counted d i l (h .0))))
 
--- ---- from blocks to links: what blocks get by the links that lead on from them and by those that end in them, summed over the blocks, is what links bring, summed over the links
+-- ---- from blocks to links: what a block gets by the link that ends in it, told of the block behind
 pub previous-is : (g : Grid) → Counted g → (d i : ℕ) → i < blocksOf g → (y : ℕ → ℤ)
     → only (previousOf g d i) (y (i - strideOf g d)) ≡ back (strideOf g d) (λ k. only (nextOf g d k) (y k)) i
 unfolding back
@@ -280,21 +279,3 @@ previous-is g counted d i l y =
     (λ t. joint (leb (strideOf g d) i) (nextOf g d (i - strideOf g d)) (le→leb (strideOf g d) i (previous-low g counted d i l t)) (previous-next g counted d i l t))
     (λ t. let h = both (leb (strideOf g d) i) (nextOf g d (i - strideOf g d)) t in next-previous g counted d i l (leb→le (strideOf g d) i (h .0)) (h .1)))
     ∙ sym (only-and (leb (strideOf g d) i) (nextOf g d (i - strideOf g d)) (y (i - strideOf g d)))
-
-pub shift : (g : Grid) → Counted g → (d : ℕ) (x y : ℕ → ℤ)
-    → sum (blocksOf g) (λ i. only (nextOf g d i) (x i) +ℤ only (previousOf g d i) (y (i - strideOf g d))) ≡ sum (blocksOf g) (λ i. only (nextOf g d i) (x i +ℤ y i))
-shift g counted d x y =
-    sum-same n (λ i. own i +ℤ only (previousOf g d i) (y (i - strideOf g d))) (λ i. own i +ℤ back (strideOf g d) ends i) (λ i l. ap (λ z. own i +ℤ z) (previous-is g counted d i l y))
-    ∙ sum-add n own (back (strideOf g d) ends)
-    ∙ ap (λ z. sum n own +ℤ z) (sum-move n (strideOf g d) ends (λ i l h. only-off (nextOf g d i) (y i) (λ t. h (next-inside g counted d i l t))))
-    ∙ sym (sum-add n own ends)
-    ∙ sum-same n (λ i. own i +ℤ ends i) (λ i. only (nextOf g d i) (x i +ℤ y i)) (λ i l. sym (only-add (nextOf g d i) (x i) (y i)))
-  where
-    n : ℕ
-    n = blocksOf g
-
-    own : ℕ → ℤ
-    own i = only (nextOf g d i) (x i)
-
-    ends : ℕ → ℤ
-    ends i = only (nextOf g d i) (y i)

@@ -9,7 +9,7 @@ use Rattle.grid.specs.declared.Grid.{Grid}
 use Rattle.grid.specs.Units.{mostAcross, mostLayers, mostBlocks, mostDelta, mostStep, mostTolerance}
 use Rattle.grid.specs.Place.{blocksOf}
 
--- a count from 1 to the most
+-- a count lies between 1 and the most that there may be
 abbrev pub countWithin : ℕ → ℕ → Bool
 countWithin n most = leb 1 n && leb n most
 
@@ -17,13 +17,13 @@ countWithin n most = leb 1 n && leb n most
 unfoldable pub countsHold : Grid → Bool
 countsHold g = countWithin (g .columns) mostAcross && (countWithin (g .rows) mostAcross && (countWithin (g .layers) mostLayers && leb (blocksOf g) mostBlocks))
 
--- 4: "δ, flag, step or tolerance is out of range"
+-- 4: "δ, flag, step or tolerance is out of range"; "water-table flag | 0, 1", and the other ends by their names in Units
 unfoldable pub termsHold : Grid → Bool
 termsHold g =
     inRange (between (pos 1) (pos mostDelta)) (g .delta)
     && (leb (g .flag) 1 && (inRange (between (pos 1) (pos mostStep)) (g .step) && inRange (between (pos 0) (pos mostTolerance)) (g .tolerance)))
 
--- what later parts require of the terms
+-- what later parts require of the terms, as 4 does not refuse them: δ, flag, step in days, tolerance in litres a day
 pub record Termed (g : Grid) : Type 0 where
   pub delta : In (pos 1) (pos mostDelta) (g .delta)
   pub flag : g .flag ≤ 1

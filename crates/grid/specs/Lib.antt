@@ -1,3 +1,4 @@
+-- The definitions of `grid`, for the crates above.
 pub mod Units
 pub mod Place
 pub mod Judging

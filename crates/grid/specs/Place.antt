@@ -9,7 +9,7 @@ use Rattle.grid.specs.declared.place.Place.{Place}
 use Rattle.grid.specs.declared.place.Neighbour.the-variants.{At, Outside}
 use Rattle.grid.specs.Units.{mostAcross, mostBlocks, mostLayers}
 
--- the block total
+-- the block total of a grid
 abbrev pub blocksOf : Grid → ℕ
 blocksOf g = g .columns * g .rows * g .layers
 
@@ -27,6 +27,7 @@ pub record Counted (g : Grid) : Type 0 where
 unfoldable pub placeOf : Grid → ℕ → Place
 placeOf g i = record { column = i % g .columns; row = i / g .columns % g .rows; layer = i / g .columns / g .rows }
 
+-- the block at a place: `placeOf` the other way round
 unfoldable pub blockAt : Grid → Place → ℕ
 blockAt g p = (p .layer * g .rows + p .row) * g .columns + p .column
 
@@ -42,17 +43,19 @@ topOf g i = eqb (placeOf g i .layer + 1) (g .layers)
 
 -- ---- the three axes: 0 to the next column, 1 to the next row, 2 to the block above
 
+-- the column, the row or the layer of a place, by the axis
 abbrev pub coordinateOf : Place → ℕ → ℕ
 coordinateOf p zero = p .column
 coordinateOf p (suc zero) = p .row
 coordinateOf p (suc (suc d)) = p .layer
 
+-- how many columns, rows or layers there are, by the axis
 abbrev pub extentOf : Grid → ℕ → ℕ
 extentOf g zero = g .columns
 extentOf g (suc zero) = g .rows
 extentOf g (suc (suc d)) = g .layers
 
--- from a block to the next one along the axis
+-- how far on in block order the next block along the axis stands
 abbrev pub strideOf : Grid → ℕ → ℕ
 strideOf g zero = 1
 strideOf g (suc zero) = g .columns
@@ -71,7 +74,8 @@ earlierOf p zero = record { column = p .column - 1; row = p .row; layer = p .lay
 earlierOf p (suc zero) = record { column = p .column; row = p .row - 1; layer = p .layer }
 earlierOf p (suc (suc d)) = record { column = p .column; row = p .row; layer = p .layer - 1 }
 
--- the link (d, i) joins block i, its low end, to block i + stride, its high end, where that block is there
+-- "Neighbours in a row or column of one layer"; "the one directly above": the link (d, i) joins block i, its low side, to block i + stride, its high
+-- side, where that block is there
 unfoldable pub nextOf : Grid → ℕ → ℕ → Bool
 nextOf g d i = hasNext g (placeOf g i) d
 
@@ -89,7 +93,7 @@ unfoldable pub neighbourOf : Grid → ℕ → ℕ → Bool → Neighbour
 neighbourOf g d i true = there (nextOf g d i) (i + strideOf g d)
 neighbourOf g d i false = there (previousOf g d i) (i - strideOf g d)
 
--- "let p be the block on a's other side", for the low or the high end a of the link (d, i)
+-- "let p be the block on a's other side", for the low or the high side a of the link (d, i)
 unfoldable pub behindOf : Grid → ℕ → ℕ → Bool → Neighbour
 behindOf g d i true = neighbourOf g d i false
 behindOf g d i false = neighbourOf g d (i + strideOf g d) true

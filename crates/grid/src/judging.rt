@@ -11,16 +11,19 @@ use super::units::MOST_TOLERANCE;
 use whole::ranges::Range;
 use whole::ranges::in_range;
 
+// δ, whole.
 const DELTAS: Range = Range {
     lower: 1,
     upper: MOST_DELTA,
 };
 
+// Time steps, days.
 const STEPS: Range = Range {
     lower: 1,
     upper: MOST_STEP,
 };
 
+// Tolerances, litres a day.
 const TOLERANCES: Range = Range {
     lower: 0,
     upper: MOST_TOLERANCE,

@@ -7,7 +7,6 @@ ghost use Rattle.grid.specs.Place.{
   blocksOf,
   placeOf,
   topOf,
-  blockAt,
   coordinateOf,
   extentOf,
   strideOf,
@@ -17,7 +16,6 @@ ghost use Rattle.grid.specs.Place.{
   neighbourOf,
   behindOf,
   Counted,
-  Inside,
 };
 use super::Grid;
 
@@ -65,17 +63,8 @@ pub fn is_top(g: Grid, block: usize) -> bool
     place.layer + 1 == g.layers
 }
 
-// The block at a place. Inner: the counts are in range and the place is inside.
-pub fn block_at(g: Grid, place: Place) -> usize
-    requires { ⌜ Counted g ⌝ }
-    requires { ⌜ Inside g place ⌝ }
-    ensures { λ r. ⌜ r ≡ blockAt g place ⌝ }
-{
-    (place.layer * g.rows + place.row) * g.columns + place.column
-}
-
 // The column, the row or the layer, by the axis.
-pub fn coordinate(place: Place, axis: usize) -> usize
+fn coordinate(place: Place, axis: usize) -> usize
     ensures { λ r. ⌜ r ≡ coordinateOf place axis ⌝ }
 {
     match axis {
@@ -86,7 +75,7 @@ pub fn coordinate(place: Place, axis: usize) -> usize
 }
 
 // How many columns, rows or layers there are, by the axis.
-pub fn extent(g: Grid, axis: usize) -> usize
+fn extent(g: Grid, axis: usize) -> usize
     ensures { λ r. ⌜ r ≡ extentOf g axis ⌝ }
 {
     match axis {
@@ -168,7 +157,7 @@ pub fn across(g: Grid, block: usize, axis: usize, on: bool) -> Neighbour
     Neighbour::Outside
 }
 
-// "let p be the block on a's other side": the block behind the low or the high end of the link that leads on from this block.
+// "let p be the block on a's other side": the block behind the low or the high side of the link that leads on from this block.
 // Inner: the counts are in range and both ends are inside.
 pub fn behind(g: Grid, block: usize, axis: usize, low: bool) -> Neighbour
     requires { ⌜ Counted g ⌝ }

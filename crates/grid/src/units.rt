@@ -3,10 +3,13 @@
 // Columns and rows, each.
 pub const MOST_ACROSS: usize = 64;
 
+// Layers.
 pub const MOST_LAYERS: usize = 8;
 
+// Blocks in all layers together.
 pub const MOST_BLOCKS: usize = 512;
 
+// δ, whole.
 pub const MOST_DELTA: i64 = 100;
 // Days.
 pub const MOST_STEP: i64 = 36_525;

@@ -1,7 +1,7 @@
 -- What is answered, by the tests that the code makes. Assumes nothing.
 use mathlib.Core.Bool.{Bool, cond, false, not, true, true≢false}
 use mathlib.Core.Logic.{_⊎_}
-use mathlib.Core.Path.{_∙_, _≡_, ap, subst, sym}
+use mathlib.Core.Path.{_∙_, _≡_, ap, sym}
 use Prim.Native.Nat.{_<_, _≤_, ℕ}
 use lib.Dec.{T}
 use lib.Ieee.{Float, binary64, fin, fits, inf, isNan, nan, ne, ofBits, toBits}
@@ -13,6 +13,7 @@ use lib.Signed.{_<ℤ_, _≤ℤ_}
 use Rattle.whole.specs.declared.ranges.Range.{Range}
 use Rattle.whole.specs.Ranges.{between, inRange}
 use Rattle.whole.specs.Whole.{In}
+use Rattle.whole.proofs.SearchLaws.{holds}
 use Rattle.whole.proofs.WithinLaws.{in-ranged, out-ranged}
 use Rattle.slots.specs.Units.{mostLevel}
 use Rattle.slices.specs.Slices.{none, refusal}
@@ -59,7 +60,7 @@ refused-value most x f h = sym (not-taken most x (taken-finite most x f ∙ out-
 -- the test for what is no number
 pub refused-nan : (most : ℤ) (x : Float) → ne x x ≡ true → refused ≡ takenOf most x
 unfolding isTaken
-refused-nan most x h = not-taken most x (ap (isTaken most) (differs-from-itself x (subst T (sym h) tt)))
+refused-nan most x h = not-taken most x (ap (isTaken most) (differs-from-itself x (holds h)))
 
 pub no-nan : (x : Float) → ne x x ≡ false → T (not (isNan x))
 unfolding isNan

@@ -1,12 +1,13 @@
 -- `closest a b` by how twice the remainder of a / b compares with b. Assumes nothing.
 use mathlib.Core.Bool.{not}
-use mathlib.Core.Path.{_≡_, refl, subst}
+use mathlib.Core.Path.{_≡_, refl}
 use Prim.Native.Nat.{Ordering, Ordering·eq, Ordering·gt, Ordering·lt, _%_, _*_, _+_, _/_, _<_, _≤_, compare, ℕ}
 use native.Mathlib.Omega.{arith}
 use lib.Arith.{lt-of-le-ne}
-use lib.Dec.{T, eqb, eqb-refl, eqb→eq, isEq, isLe, leb→le, nleb→lt}
+use lib.Dec.{T, eqb→eq, isEq, isLe, leb→le, nleb→lt}
 use lib.Ieee.{nearest}
 use lib.Ieee.Nearest.{closest}
+use Rattle.whole.proofs.SumLaws.{eq→eqb}
 
 -- which way two numbers compare
 abbrev pub Way : Ordering → ℕ → ℕ → Type 0
@@ -15,7 +16,7 @@ Way Ordering·eq a b = a ≡ b
 Way Ordering·gt a b = b < a
 
 pub way : (a b : ℕ) → Way (compare a b) a b
-way a b = go (compare a b) (leb→le a b) (nleb→lt a b) (eqb→eq a b) (λ e. subst (λ (x : ℕ). T (eqb a x)) e (eqb-refl a))
+way a b = go (compare a b) (leb→le a b) (nleb→lt a b) (eqb→eq a b) (eq→eqb a b)
   where
     go : (o : Ordering) → (T (isLe o) → a ≤ b) → (T (not (isLe o)) → b < a) → (T (isEq o) → a ≡ b) → (a ≡ b → T (isEq o)) → Way o a b
     go Ordering·lt h k e n = lt-of-le-ne (h tt) n

@@ -9,35 +9,30 @@ use native.Mathlib.Omega.{arith}
 use lib.Dec.{T}
 use lib.Ieee.{Float, binary64, fin, fits, inf, nan}
 use lib.Ieee.Scale.{finite}
-use lib.IntN.{natAbs, negsuc, negℤ, pos, ℤ}
+use lib.IntN.{natAbs, negℤ, pos, ℤ}
 use lib.Signed.{_<ℤ_, _≤ℤ_}
-use Rattle.whole.specs.Ranges.{between, inRange}
+use Rattle.whole.specs.Ranges.{between}
 use Rattle.whole.specs.Whole.{Abs, In}
 use Rattle.whole.proofs.OrderLaws.{≤ℤ-or-<}
+use Rattle.whole.proofs.RangeLaws.{leaf, within}
+use Rattle.whole.proofs.SearchLaws.{one-or-other}
 use Rattle.whole.proofs.WithinLaws.{in-ranged, range-in}
 use Rattle.slots.specs.Units.{mostLevel}
 use Rattle.slices.specs.Slices.{none, refusal}
 use Rattle.block.specs.Units.{ticks}
-use Rattle.metres.specs.declared.Shown.{Shown}
-use Rattle.metres.specs.declared.Taken.{Taken}
 use Rattle.metres.specs.declared.boundary.Boundary.{Boundary}
 use Rattle.metres.specs.declared.boundary.Boundary.the-variants.{BothFixed, FixedFresh, FixedSalt, None, River, Sea}
-use Rattle.metres.specs.declared.boundary.BoundarySlots.{BoundarySlots}
 use Rattle.metres.specs.Boundaries.{boundarySlotsOf, withLevel}
 use Rattle.metres.specs.Meaning.{BoundaryTwelve, Shows, Twelve, distanceOf, negative}
-use Rattle.metres.specs.Metres.{isShown, isTaken, metresOf, mostShown, shown, shownOf, taken, takenOf, tickOf, ticksIn, zeroMetres}
+use Rattle.metres.specs.Metres.{isShown, isTaken, metresOf, mostShown, shown, shownOf, taken, takenOf, tickOf, zeroMetres}
 use Rattle.metres.proofs.AnswersLaws.{is-shown, refused-value, taken-value}
 use Rattle.metres.proofs.NearestLaws.{nearest-tick, tie-even}
-use Rattle.metres.proofs.ShownLaws.{level-shown, metres-exact, metres-fit, value-finite}
+use Rattle.metres.proofs.ShownLaws.{metres-exact, metres-fit, value-finite}
 use Rattle.metres.proofs.TakenLaws.{tick-whole}
 use Rattle.metres.proofs.ValueLaws.{value-unique}
 
 not-zero : _≡_ {A = ℕ} 12 0 → ⊥
 not-zero h = omega arith
-
-one-or-other : {A : Type 0} (b : Bool) (x y : A) → (cond b x y ≡ x) ⊎ (cond b x y ≡ y)
-one-or-other true x y = inl refl
-one-or-other false x y = inr refl
 
 -- ---- shown
 
@@ -119,7 +114,7 @@ taken-in-range most x e = rw (ap (λ a. a .tick) (taken-is most x e)) (record { 
 -- "so showing a tick within ±4,194,304 and taking it in again changes nothing"; for a sea floor, one that is not above 0
 pub shown-again : (most t : ℤ) → Abs mostLevel t → t ≤ℤ most → takenOf most (shownOf t .metres) ≡ taken none t
 shown-again most t h l =
-    let v = shown-exact t (level-shown h) in
+    let v = shown-exact t (within (leaf h) tt tt) in
     let e = tick-whole (shownOf t .metres) t v in
     taken-value most (shownOf t .metres) (value-finite (shownOf t .metres) (negative t) (natAbs t) ticks v) (rw e (record { low = h .low; high = l })) ∙ ap (taken none) e
 
@@ -136,11 +131,6 @@ taken-even most (inf s) e k n h = absurd (no-tick most (inf s) tt e)
 taken-even most (fin s m d) e k n h =
     let is = ap (λ a. a .tick) (taken-is most (fin s m d) e) in
     rw is (tie-even s m d k (rw is at n) (rw is at h))
-
--- row l: 2⁻¹³ m is tick 0, and 3 · 2⁻¹³ m is tick 2
-pub row-l : (takenOf (pos mostLevel) (fin false 1 (negsuc 12)) ≡ taken none (pos 0)) × (takenOf (pos mostLevel) (fin false 3 (negsuc 12)) ≡ taken none (pos 2))
-unfolding takenOf isTaken tickOf ticksIn inRange
-row-l = (refl, refl)
 
 -- ---- a boundary
 
@@ -160,14 +150,3 @@ boundary-twelve-exactly (Sea x) = level-twelve (pos 2) (pos 0) x
 boundary-twelve-exactly FixedFresh = (λ e. not-zero (sym e), absurd)
 boundary-twelve-exactly FixedSalt = (λ e. not-zero (sym e), absurd)
 boundary-twelve-exactly BothFixed = (λ e. not-zero (sym e), absurd)
-
--- ---- one outcome
-
-pub one-shown : (t : ℤ) (r s : Shown) → r ≡ shownOf t → s ≡ shownOf t → r ≡ s
-one-shown t r s e f = e ∙ sym f
-
-pub one-taken : (x : Float) (r s : Taken) → r ≡ takenOf (pos mostLevel) x → s ≡ takenOf (pos mostLevel) x → r ≡ s
-one-taken x r s e f = e ∙ sym f
-
-pub one-boundary : (b : Boundary) (r s : BoundarySlots) → r ≡ boundarySlotsOf b → s ≡ boundarySlotsOf b → r ≡ s
-one-boundary b r s e f = e ∙ sym f

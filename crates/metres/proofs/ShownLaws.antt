@@ -3,7 +3,7 @@
 use mathlib.Core.Bool.{Bool, false, true}
 use mathlib.Core.Path.{_∙_, _≡_, ap, refl, subst, sym}
 use Prim.Native.Nat.{_*_, _+_, _<_, _^_, _≤_, suc, ℕ}
-use native.Mathlib.Nat.{le-of-lt, le-trans, lt-of-lt-of-le, mul-assoc, mul-comm, mul-pos, zero-lt-suc}
+use native.Mathlib.Nat.{le-of-lt, lt-of-lt-of-le, mul-assoc, mul-comm, mul-pos, zero-lt-suc}
 use native.Mathlib.Omega.{arith}
 use lib.Dec.{T, le→leb, lit≤, lt→ltb}
 use lib.Ieee.{Float, binary64, div, down, fin, fits, inFloat, inf, nan, ofBits, ofInt, round, unlike, up}
@@ -14,18 +14,13 @@ use lib.Ieee.Scale.{finite, round-same}
 use lib.IntN.{natAbs, negsuc, pos, ℤ}
 use lib.Pow.{pow-add, pow-mono, shl-lt}
 use Rattle.whole.specs.Whole.{Abs}
-use Rattle.whole.proofs.OrderLaws.{abs-in, in-abs}
-use Rattle.slots.specs.Units.{mostLevel}
+use Rattle.whole.proofs.OrderLaws.{in-abs}
 use Rattle.metres.specs.Meaning.{Shows}
 use Rattle.metres.specs.Metres.{metresOf, mostShown}
 
 -- a tick that is shown has up to 53 digits
 below-digits : {t : ℤ} → Abs mostShown t → natAbs t < 2 ^ 53
 below-digits h = omega (arith, in-abs h)
-
--- a level is a tick that is shown
-pub level-shown : {t : ℤ} → Abs mostLevel t → Abs mostShown t
-level-shown h = abs-in (le-trans (in-abs h) (lit≤ tt))
 
 -- ---- exact
 

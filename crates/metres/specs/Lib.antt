@@ -1,3 +1,4 @@
+-- The definitions of `metres`, for the crates above.
 pub mod Metres
 pub mod Boundaries
 pub mod Patterns

@@ -35,7 +35,7 @@ distanceOf (fin s m e) k = natAbs (k *ℤ pos (down e) -ℤ signedBy s (m * up e
 abbrev pub Twelve : ℤ → Float → Type 0
 Twelve most x = T (not (finite x)) ⊎ ((tickOf x <ℤ negℤ (pos mostLevel)) ⊎ (most <ℤ tickOf x))
 
--- and of a boundary: of its stage, or of its floor
+-- 12 of a boundary: of its stage, or of its floor
 abbrev pub BoundaryTwelve : Boundary → Type 0
 BoundaryTwelve None = ⊥
 BoundaryTwelve (River stage) = Twelve (pos mostLevel) stage

@@ -24,7 +24,7 @@ metresOf (negsuc n) = round binary64 true (suc n) ticks
 abbrev pub mostShown : ℕ
 mostShown = 9007199254740991
 
--- such a tick, either way
+-- whether a tick is at most 2⁵³ - 1 without sign
 abbrev pub isShown : ℤ → Bool
 isShown t = inRange (between (negℤ (pos mostShown)) (pos mostShown)) t
 
@@ -32,10 +32,11 @@ isShown t = inRange (between (negℤ (pos mostShown)) (pos mostShown)) t
 abbrev pub zeroMetres : Float
 zeroMetres = fin false 0 (pos 0)
 
+-- a refusal, and metres beside it
 abbrev pub shown : Refusal → Float → Shown
 shown r x = record { refusal = r; metres = x }
 
--- beyond that not every tick has an exact double, and none is shown
+-- a tick in metres; beyond 2⁵³ - 1 without sign not every tick has an exact double, and all are refused with 12
 unfoldable pub shownOf : ℤ → Shown
 shownOf t = cond (isShown t) (shown none (metresOf t)) (shown (refusal 12 0) zeroMetres)
 
@@ -48,7 +49,7 @@ ticksIn nan = 0
 ticksIn (inf s) = 0
 ticksIn (fin s m e) = closest (m * up e * ticks) (down e)
 
--- with the sign of the double
+-- a number of ticks with the sign of the double
 abbrev pub signedBy : Bool → ℕ → ℤ
 signedBy true n = negℤ (pos n)
 signedBy false n = pos n
@@ -66,9 +67,10 @@ isTaken most nan = false
 isTaken most (inf s) = false
 isTaken most (fin s m e) = inRange (between (negℤ (pos mostLevel)) most) (tickOf (fin s m e))
 
+-- a refusal, and a tick beside it
 abbrev pub taken : Refusal → ℤ → Taken
 taken r t = record { refusal = r; tick = t }
 
--- the tick, or 12
+-- the tick of a double, or refusal 12
 unfoldable pub takenOf : ℤ → Float → Taken
 takenOf most x = cond (isTaken most x) (taken none (tickOf x)) (taken (refusal 12 0) (pos 0))

@@ -44,12 +44,13 @@ const TWELVE: Refusal = Refusal {
 // Ticks, 2⁵³ - 1 either way: a double holds each of these in metres.
 const MOST_SHOWN: i64 = 9_007_199_254_740_991;
 
+// Ticks that are shown.
 const SHOWN: Range = Range {
     lower: -MOST_SHOWN,
     upper: MOST_SHOWN,
 };
 
-// A tick in metres, "as an exact double". Inner: a double holds it.
+// A tick in metres, "as an exact double". Inner: it is below 2⁵³ without sign.
 pub fn metres_of(tick: i64) -> f64
     requires { ⌜ Abs mostShown tick ⌝ }
     ensures { λ r. ⌜ r ≡ metresOf tick ⌝ }
@@ -57,7 +58,7 @@ pub fn metres_of(tick: i64) -> f64
     tick as f64 / 4096.0
 }
 
-// "A tick value is shown in metres as an exact double." Ticks of 2⁵³ and more, either way, are refused with 12: not all of them have one.
+// "A tick value is shown in metres as an exact double". Ticks of 2⁵³ and more, either way, are refused with 12: not all of them have one.
 pub fn show(tick: i64) -> Shown
     ensures { λ r. ⌜ r ≡ shownOf tick ⌝ }
 {
@@ -73,7 +74,8 @@ pub fn show(tick: i64) -> Shown
     }
 }
 
-// The tick of a double in metres, or 12 where it has none, or one below -4,194,304 or above `most`, ticks. Inner: that is at most 4,194,304.
+// The tick of a double in metres, or 12 where it has none, or one below -4,194,304 or above `most`, ticks. Inner: `most` is at most
+// 4,194,304.
 fn take_up_to(metres: f64, most: i64) -> Taken
     requires { ⌜ most ≤ℤ pos mostLevel ⌝ }
     ensures { λ r. ⌜ r ≡ takenOf most metres ⌝ }

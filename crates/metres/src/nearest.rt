@@ -26,7 +26,7 @@ fn digits_of(bits: u64) -> u64
     (bits & 0xf_ffff_ffff_ffff) | 0x10_0000_0000_0000
 }
 
-// The even one of a number and the next. Inner: it is in range.
+// The even one of a number and the next. Inner: the number is below 2⁵³.
 fn to_even(whole: u64) -> u64
     requires { ⌜ whole < 2 ^ 53 ⌝ }
     ensures { λ r. ⌜ r ≡ whole + whole % 2 ⌝ }
@@ -34,7 +34,7 @@ fn to_even(whole: u64) -> u64
     if whole % 2 == 0 { whole } else { whole + 1 }
 }
 
-// digits / unit to the nearest whole number, "halves to the even one". Inner: both are in range.
+// digits / unit to the nearest whole number, "halves to the even one". Inner: digits are below 2⁵³, and unit is from 1 to 2⁵³.
 fn nearest(digits: u64, unit: u64) -> u64
     requires { ⌜ digits < 2 ^ 53 ⌝ }
     requires { ⌜ 0 < unit ⌝ }
@@ -52,8 +52,8 @@ fn nearest(digits: u64, unit: u64) -> u64
     }
 }
 
-// How many ticks a double has, to the nearest, without sign. Inner: it is not far.
-fn size_of(bits: u64) -> u64
+// How many ticks a double has, to the nearest, without sign. Inner: its exponent's field is below FAR.
+fn ticks_in(bits: u64) -> u64
     requires { ⌜ fieldOf bits < far ⌝ }
     ensures { λ r. ⌜ r ≡ ticksIn (ofBits binary64 bits) ⌝ }
 {
@@ -65,12 +65,12 @@ fn size_of(bits: u64) -> u64
     nearest(digits_of(bits), 1u64 << (1063 - exponent))
 }
 
-// The nearest tick of a double. Inner: it is not far.
+// The nearest tick of a double. Inner: its exponent's field is below FAR.
 pub fn tick_of(bits: u64) -> i64
     requires { ⌜ fieldOf bits < far ⌝ }
     ensures { λ r. ⌜ r ≡ tickOf (ofBits binary64 bits) ⌝ }
 {
-    let size = size_of(bits) as i64;
+    let size = ticks_in(bits) as i64;
     if bits >= 0x8000_0000_0000_0000 {
         0 - size
     } else {

@@ -1,4 +1,4 @@
--- Laws of `numberFrom`: its cases, at a count that is no literal, its weights, and the bounds of what is read. Assumes nothing.
+-- Laws of `numberFrom`: its cases, however many bytes may still be read, its weights, and the bounds of what is read. Assumes nothing.
 use mathlib.Core.List.{List}
 use mathlib.Core.Path.{_∙_, _≡_, ap, refl, sym}
 use Prim.Native.Nat.{_%_, _*_, _+_, _-_, _<_, _^_, _≤_, suc, zero, ℕ}

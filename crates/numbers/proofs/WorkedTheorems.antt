@@ -1,4 +1,4 @@
--- Numbers worked by hand (document 01), by the definitions: "300 is AC 02; 80 00 is refused with 2; -1 is sent as 1."
+-- Numbers worked by hand (document 01), by the definitions: "300 is AC 02; 80 00 is refused with 2; -1 is sent as 1." Assumes nothing.
 use mathlib.Core.List.{[], _∷_}
 use mathlib.Core.Path.{_≡_, refl}
 use lib.IntN.{negsuc}

@@ -1,1 +1,2 @@
+-- The definitions of `numbers`, for the crates above.
 pub mod Numbers

@@ -29,7 +29,7 @@ numberFrom (suc left) least weight sum file at =
 abbrev pub numberAt : List ℕ → ℕ → Number
 numberAt file at = numberFrom mostBytes 0 1 0 file at
 
--- the bytes of a number in its shortest form, in at most `left` bytes
+-- "low group first, high bit set on all but the last byte, .. shortest form only": the bytes of a number, in at most `left` bytes
 unfoldable pub bytesFrom : ℕ → ℕ → List ℕ
 bytesFrom zero n = []
 bytesFrom (suc left) n = cond (ltb n 128) (n ∷ []) ((128 + n % 128) ∷ bytesFrom left (n / 128))

@@ -4,7 +4,7 @@ ghost use mathlib.Core.Path.{_≡_};
 ghost use Prim.Native.Nat.{_<_};
 ghost use lib.IntN.{natAbs};
 use libc::STDOUT_FILENO;
-use session::LINES;
+use session::LINES_EACH;
 use session::MOST_TABLES;
 use session::Session;
 use slices::Refusal;
@@ -50,7 +50,7 @@ pub fn print_refusal(refusal: Refusal) {
 }
 
 // "Verdict fields stand as listed above": code, block, count, largest balance in litres a day.
-fn print_verdict(verdict: Verdict) {
+pub fn print_verdict(verdict: Verdict) {
     io::write_all(STDOUT_FILENO, b"verdict");
     print_number(verdict.code);
     print_number(verdict.block as u64);
@@ -88,7 +88,7 @@ fn print_table(lines: &[i64], table: usize, last: bool)
         } else {
             io::write_all(STDOUT_FILENO, b" salt");
         }
-        print_row(lines, LINES * table + ROW_LINES * fluid, ROW_LINES);
+        print_row(lines, LINES_EACH * table + ROW_LINES * fluid, ROW_LINES);
     }
 }
 

@@ -3,40 +3,20 @@ use mathlib.Core.Bool.{Bool, _&&_, cond, false, true}
 use mathlib.Core.List.{List, [], _∷_}
 use mathlib.Core.Path.{_∙_, _≡_, ap, refl, subst, sym}
 use Prim.Native.Nat.{_-_, _<_, _≤_, ℕ}
-use native.Mathlib.Nat.{le-trans}
 use native.Mathlib.Omega.{arith}
-use lib.Dec.{T, eqb, leb, leb→le, lit≤}
-use lib.IntN.{pos, ℤ}
-use lib.Signed.{leZ-yes}
+use lib.Dec.{eqb, leb, leb→le}
+use lib.IntN.{ℤ}
 use borrow.Author.Tests.{eq-eqb, le-leb, lt-leb, ne-eqb}
-use Rattle.whole.specs.Whole.{Abs, In}
-use Rattle.whole.proofs.OrderLaws.{abs-in, in-abs, ≤ℤ-trans}
-use Rattle.whole.proofs.SearchLaws.{both, true-is}
+use Rattle.whole.proofs.SearchLaws.{both, true-is, holds}
 use Rattle.grid.specs.declared.Grid.{Grid}
 use Rattle.grid.specs.Place.{blocksOf, topOf}
 use Rattle.slots.specs.Slots.{blockOf, isActive}
-use Rattle.slots.specs.Units.{mostLevel, mostThickness}
 use Rattle.slices.specs.declared.Refusal.{Refusal}
 use Rattle.slices.specs.Slices.{Case, firstRefusal, none, orElse, refusal}
 use Rattle.slices.proofs.SlicesLaws.{first-goes-on, first-stays, none-refused}
-use Rattle.block.specs.Units.{mostInterface}
-use Rattle.metres.specs.Metres.{mostShown}
-use Rattle.metres.proofs.ShownLaws.{level-shown}
 use Rattle.wellformed.specs.Limits.{checkedOf, checksOf}
 use Rattle.report.specs.declared.Report.{Report}
 use Rattle.report.specs.Reports.{Named, namesActive, naming, noReport, reportAnswer, reportOf, reportRefusal, telling}
-
--- ---- numbers that a double holds
-
-pub interface-shown : {z : ℤ} → Abs mostInterface z → Abs mostShown z
-interface-shown h = abs-in (le-trans (in-abs h) (lit≤ tt))
-
--- a thickness is at most 4,194,304 too
-pub thick-level : {z : ℤ} → In (pos 0) (pos mostThickness) z → Abs mostLevel z
-thick-level h = record { low = ≤ℤ-trans (leZ-yes tt) (h .low); high = h .high }
-
-pub thickness-shown : {z : ℤ} → In (pos 0) (pos mostThickness) z → Abs mostShown z
-thickness-shown h = level-shown (thick-level h)
 
 -- ---- which numbers name an active block
 
@@ -63,7 +43,7 @@ module _ (g : Grid) (slots : List ℤ) (number : ℕ) where
 pub named : (c : Case) (number : ℕ) → namesActive (c .grid) (c .slots) number ≡ true → Named c number
 unfolding namesActive
 named c number e =
-    let h = both (leb 1 number) (rest (c .grid) (c .slots) number) (subst T (sym e) tt) in
+    let h = both (leb 1 number) (rest (c .grid) (c .slots) number) (holds e) in
     let k = both (leb number (blocksOf (c .grid))) (isActive (blockOf (c .slots) (number - 1))) (h .1) in
     (leb→le 1 number (h .0), (leb→le number (blocksOf (c .grid)) (k .0), k .1))
 

@@ -7,6 +7,7 @@ use Prim.Native.Nat.{_-_, ℕ}
 use lib.IntN.{pos, ℤ}
 use borrow.Author.Tests.{eq-eqb}
 use Rattle.whole.specs.Whole.{Abs}
+use Rattle.whole.proofs.RangeLaws.{leaf, within}
 use Rattle.grid.specs.Place.{topOf}
 use Rattle.slots.specs.declared.Block.{Block}
 use Rattle.slots.specs.Slots.{Ends, blockOf}
@@ -23,12 +24,11 @@ use Rattle.block.proofs.FluidLaws.{new-heads-in}
 use Rattle.metres.specs.Meaning.{Shows}
 use Rattle.metres.specs.Metres.{metresOf, taken, takenOf}
 use Rattle.metres.proofs.MetresTheorems.{shown-again, shown-told}
-use Rattle.metres.proofs.ShownLaws.{level-shown, metres-exact}
+use Rattle.metres.proofs.ShownLaws.{metres-exact}
 use Rattle.wellformed.specs.Limits.{checkedOf, checksOf}
 use Rattle.wellformed.proofs.LimitsLaws.{checked-stands}
-use Rattle.report.specs.declared.Answer.{Answer}
 use Rattle.report.specs.Reports.{Named, inMetres, namesActive, naming, noReport, reportAnswer, reportOf, reportRefusal}
-use Rattle.report.proofs.ReportLaws.{check-refuses, fourteen, interface-shown, named, named-inside, names, naming-none, refusal-is, thick-level, thickness-shown}
+use Rattle.report.proofs.ReportLaws.{check-refuses, fourteen, named, named-inside, names, naming-none, refusal-is}
 
 -- ---- who is answered
 
@@ -58,7 +58,7 @@ fourteen-asked c number e n = ap (λ a. a .refusal) (sym (fourteen c number e (g
 
 -- a tick's metres are taken in as it
 again : (t : ℤ) → Abs mostLevel t → takenOf (pos mostLevel) (metresOf t) ≡ taken none t
-again t h = sym (ap (λ a. takenOf (pos mostLevel) (a .metres)) (shown-told t (level-shown h))) ∙ shown-again (pos mostLevel) t h (h .high)
+again t h = sym (ap (λ a. takenOf (pos mostLevel) (a .metres)) (shown-told t (within (leaf h) tt tt))) ∙ shown-again (pos mostLevel) t h (h .high)
 
 -- of a number that is answered
 module _ (c : Case) (number : ℕ) (e : reportAnswer c number .refusal .number ≡ 0) where
@@ -94,12 +94,12 @@ module _ (c : Case) (number : ℕ) (e : reportAnswer c number .refusal .number �
       Shows (r .«fresh_head») (heads .fresh)
       × (Shows (r .«salt_head») (heads .salt) × (Shows (r .interface) (interfaceOf (c .grid) heads) × (Shows (r .«fresh_thickness») (waters .fresh) × Shows (r .«salt_thickness») (waters .salt))))
   report-exact = rw told (
-    metres-exact (heads .fresh) (level-shown (heads-in .of-fresh)),
+    metres-exact (heads .fresh) (within (leaf (heads-in .of-fresh)) tt tt),
     (
-      metres-exact (heads .salt) (level-shown (heads-in .of-salt)),
+      metres-exact (heads .salt) (within (leaf (heads-in .of-salt)) tt tt),
       (
-        metres-exact (interfaceOf (c .grid) heads) (interface-shown (interface-in (c .grid) heads (judged .termed) heads-in)),
-        (metres-exact (waters .fresh) (thickness-shown (waters-in .of-fresh)), metres-exact (waters .salt) (thickness-shown (waters-in .of-salt))),
+        metres-exact (interfaceOf (c .grid) heads) (within (leaf (interface-in (c .grid) heads (judged .termed) heads-in)) tt tt),
+        (metres-exact (waters .fresh) (within (leaf (waters-in .of-fresh)) tt tt), metres-exact (waters .salt) (within (leaf (waters-in .of-salt)) tt tt)),
       ),
     ),
   )
@@ -111,10 +111,5 @@ module _ (c : Case) (number : ℕ) (e : reportAnswer c number .refusal .number �
       × ((takenOf (pos mostLevel) (r .«fresh_thickness») ≡ taken none (waters .fresh)) × (takenOf (pos mostLevel) (r .«salt_thickness») ≡ taken none (waters .salt))))
   report-again = rw told (
     again (heads .fresh) (heads-in .of-fresh),
-    (again (heads .salt) (heads-in .of-salt), (again (waters .fresh) (thick-level (waters-in .of-fresh)), again (waters .salt) (thick-level (waters-in .of-salt)))),
+    (again (heads .salt) (heads-in .of-salt), (again (waters .fresh) (within (leaf (waters-in .of-fresh)) tt tt), again (waters .salt) (within (leaf (waters-in .of-salt)) tt tt))),
   )
-
--- ---- one outcome
-
-pub one-report : (c : Case) (number : ℕ) (r s : Answer) → r ≡ reportAnswer c number → s ≡ reportAnswer c number → r ≡ s
-one-report c number r s e f = e ∙ sym f

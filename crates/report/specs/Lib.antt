@@ -1,1 +1,3 @@
+-- The definitions of `report`, for the crates above.
 pub mod Reports
+pub mod WorkedByHand

@@ -2,14 +2,14 @@
 use mathlib.Core.Bool.{Bool, _&&_, cond}
 use mathlib.Core.List.{List, [], _++_, _∷_}
 use Prim.Native.Nat.{_-_, _≤_, ℕ}
-use lib.Dec.{T, eqb, leb}
+use lib.Dec.{T, leb}
 use lib.IntN.{ℤ}
 use Rattle.grid.specs.declared.Grid.{Grid}
 use Rattle.grid.specs.Place.{blocksOf, topOf}
 use Rattle.slots.specs.declared.Block.{Block}
 use Rattle.slots.specs.Slots.{blockOf, isActive}
 use Rattle.slices.specs.declared.Refusal.{Refusal}
-use Rattle.slices.specs.Slices.{Case, firstRefusal, none, refusal}
+use Rattle.slices.specs.Slices.{Case, firstRefusal, none, refusal, unlessRefused}
 use Rattle.block.specs.declared.Fluids.{Fluids}
 use Rattle.block.specs.Density.{interfaceOf}
 use Rattle.block.specs.Fluids.{newHeads}
@@ -69,4 +69,4 @@ unfoldable pub reportAnswer : Case → ℕ → Answer
 reportAnswer c number =
     let block = number - 1 in
     let r = reportRefusal c number in
-    telling r (cond (eqb (r .number) 0) (reportOf (c .grid) (blockOf (c .slots) block) (topOf (c .grid) block)) noReport)
+    telling r (unlessRefused r (reportOf (c .grid) (blockOf (c .slots) block) (topOf (c .grid) block)) noReport)

@@ -25,7 +25,7 @@ use slots::is_active;
 use slots::load;
 use wellformed::check_slices;
 
-// "A block's report gives both heads, interface and both thicknesses in metres".
+// "A block's report gives both heads, interface and both thicknesses in metres, from new heads, the interface being ζ."
 pub struct Report {
     pub fresh_head: f64,
     pub salt_head: f64,
@@ -40,19 +40,22 @@ pub struct Answer {
     pub report: Report,
 }
 
+// What stands beside a refusal.
+pub const NO_REPORT: Report = Report {
+    fresh_head: 0.0,
+    salt_head: 0.0,
+    interface: 0.0,
+    fresh_thickness: 0.0,
+    salt_thickness: 0.0,
+};
+
 // A refusal beside a report of zeros.
 fn refused(refusal: Refusal) -> Answer
     ensures { λ r. ⌜ r ≡ telling refusal noReport ⌝ }
 {
     Answer {
         refusal,
-        report: Report {
-            fresh_head: 0.0,
-            salt_head: 0.0,
-            interface: 0.0,
-            fresh_thickness: 0.0,
-            salt_thickness: 0.0,
-        },
+        report: NO_REPORT,
     }
 }
 

@@ -13,6 +13,7 @@ use lib.IntN.{pos, ℤ}
 use lib.ListN.{drop, length, length-append, replicate, take}
 use lib.Seq.{drop-at, take-at}
 use borrow.Author.Tests.{eq-eqb, le-ltb, lt-ltb, ne-eqb}
+use Rattle.whole.specs.Lent.{over}
 use Rattle.slices.specs.declared.Refusal.{Refusal}
 use Rattle.slices.specs.Slices.{Case, caseOf, none, refusal}
 use Rattle.slices.proofs.SlicesLaws.{none-refused}
@@ -20,12 +21,11 @@ use Rattle.wellformed.specs.Limits.{checkedOf, checksOf}
 use Rattle.wellformed.proofs.LimitsLaws.{checked-stands}
 use Rattle.verdict.specs.declared.Answer.{Answer}
 use Rattle.verdict.specs.declared.Verdict.{Verdict}
-use Rattle.verdict.specs.Ruling.{answerOf}
+use Rattle.verdict.specs.Ruling.{verdictAnswer}
 use Rattle.budget.specs.Answers.{caseRefusal, eighteenOf, everywhere, layerAnswer, layerZone, tabled, wholeAnswer}
-use Rattle.budget.specs.Tables.{rowOf}
+use Rattle.budget.specs.Table.{rowOf}
 use Rattle.casefile.specs.Reading.{Read, readingOf}
-use Rattle.casefile.specs.Runs.{over}
-use Rattle.session.specs.Sessions.{alone, caseIn, fileSession, firstLineOnly, layersOf, lentSlots, lentWidths, mostFile, noLines, readSession, refusing, ruling, sessionOf, tablesOf, withTables}
+use Rattle.session.specs.Sessions.{alone, caseIn, fileSession, firstLineOnly, layersOf, lentSlots, lentWidths, mostFile, noTables, readSession, refusing, ruling, sessionOf, tablesOf, withTables}
 use Rattle.casefile.specs.declared.Answer as file
 
 -- ---- lines of tables
@@ -78,10 +78,10 @@ layer-among c n (suc m) rest l =
 -- ---- what stands beside an answer
 
 -- an answer of `verdict_of_slices`
-module _ (c : Case) {a : Answer} (told : a ≡ answerOf c) where
+module _ (c : Case) {a : Answer} (told : a ≡ verdictAnswer c) where
   -- the answer's refusal is that of the case
   checked : a .refusal ≡ checkedOf c
-  unfolding answerOf
+  unfolding verdictAnswer
   checked = λ i. told i .refusal
 
   -- where it refuses nothing it is none
@@ -98,23 +98,23 @@ module _ (c : Case) {a : Answer} (told : a ≡ answerOf c) where
   session-refused n = rw (← told, ne-eqb (a .refusal .number) 0 n)
 
   -- a verdict alone
-  pub session-alone : a .refusal .number ≡ 0 → firstLineOnly (a .verdict .code) ≡ true → record { refusal = a .refusal; verdict = a .verdict; tables = 0; lines = noLines } ≡ sessionOf c
+  pub session-alone : a .refusal .number ≡ 0 → firstLineOnly (a .verdict .code) ≡ true → record { refusal = a .refusal; verdict = a .verdict; tables = 0; lines = noTables } ≡ sessionOf c
   unfolding sessionOf ruling
   session-alone z f = rw (← told, eq-eqb (a .refusal .number) 0 z, f, unrefused z)
 
   -- a verdict and the tables
-  pub session-tables : {lines : List ℤ} → a .refusal .number ≡ 0 → firstLineOnly (a .verdict .code) ≡ false → lines ≡ over (tablesOf c) noLines →
+  pub session-tables : {lines : List ℤ} → a .refusal .number ≡ 0 → firstLineOnly (a .verdict .code) ≡ false → lines ≡ over (tablesOf c) noTables →
       record { refusal = a .refusal; verdict = a .verdict; tables = c .grid .layers + 1; lines = lines } ≡ sessionOf c
   unfolding sessionOf ruling
   session-tables z f e = rw (← told, eq-eqb (a .refusal .number) 0 z, f, unrefused z, e)
 
 -- where tables are printed the lines are theirs
-pub tables-lines : (c : Case) → sessionOf c .tables ≡ c .grid .layers + 1 → sessionOf c .lines ≡ over (tablesOf c) noLines
+pub tables-lines : (c : Case) → sessionOf c .tables ≡ c .grid .layers + 1 → sessionOf c .lines ≡ over (tablesOf c) noTables
 unfolding sessionOf ruling
-tables-lines c e = go (eqb (answerOf c .refusal .number) 0) (firstLineOnly (answerOf c .verdict .code)) e
+tables-lines c e = go (eqb (verdictAnswer c .refusal .number) 0) (firstLineOnly (verdictAnswer c .verdict .code)) e
   where
-    go : (b d : Bool) → cond b (cond d (alone (answerOf c .verdict)) (withTables c (answerOf c .verdict))) (refusing (answerOf c .refusal)) .tables ≡ c .grid .layers + 1 →
-        cond b (cond d (alone (answerOf c .verdict)) (withTables c (answerOf c .verdict))) (refusing (answerOf c .refusal)) .lines ≡ over (tablesOf c) noLines
+    go : (b d : Bool) → cond b (cond d (alone (verdictAnswer c .verdict)) (withTables c (verdictAnswer c .verdict))) (refusing (verdictAnswer c .refusal)) .tables ≡ c .grid .layers + 1 →
+        cond b (cond d (alone (verdictAnswer c .verdict)) (withTables c (verdictAnswer c .verdict))) (refusing (verdictAnswer c .refusal)) .lines ≡ over (tablesOf c) noTables
     go true true e = absurd (omega arith)
     go true false e = refl
     go false d e = absurd (omega arith)
@@ -129,13 +129,13 @@ ruling-verdict c v = go (firstLineOnly (v .code))
     go false = refl
 
 -- a session that is no refusal has the answer's verdict, on a case that is not refused
-pub session-unrefused : (c : Case) → sessionOf c .refusal .number ≡ 0 → (checkedOf c .number ≡ 0) × (sessionOf c .verdict ≡ answerOf c .verdict)
+pub session-unrefused : (c : Case) → sessionOf c .refusal .number ≡ 0 → (checkedOf c .number ≡ 0) × (sessionOf c .verdict ≡ verdictAnswer c .verdict)
 unfolding sessionOf
-session-unrefused c = go (ℕ-discrete (answerOf c .refusal .number) 0)
+session-unrefused c = go (ℕ-discrete (verdictAnswer c .refusal .number) 0)
   where
-    go : Dec (answerOf c .refusal .number ≡ 0) → sessionOf c .refusal .number ≡ 0 → (checkedOf c .number ≡ 0) × (sessionOf c .verdict ≡ answerOf c .verdict)
-    go (yes h) e = (rw (checked c refl) at h, rw (eq-eqb (answerOf c .refusal .number) 0 h) (ruling-verdict c (answerOf c .verdict)))
-    go (no h) e = absurd (h (rw (ne-eqb (answerOf c .refusal .number) 0 h) at e))
+    go : Dec (verdictAnswer c .refusal .number ≡ 0) → sessionOf c .refusal .number ≡ 0 → (checkedOf c .number ≡ 0) × (sessionOf c .verdict ≡ verdictAnswer c .verdict)
+    go (yes h) e = (rw (checked c refl) at h, rw (eq-eqb (verdictAnswer c .refusal .number) 0 h) (ruling-verdict c (verdictAnswer c .verdict)))
+    go (no h) e = absurd (h (rw (ne-eqb (verdictAnswer c .refusal .number) 0 h) at e))
 
 -- ---- a file
 
@@ -155,9 +155,9 @@ unfolding readSession
 read-refused r a e h = rw (← e, ne-eqb (a .refusal .number) 0 h)
 
 -- and for one that was not
-pub read-accepted : (r : Read) (a : file.Answer) (columns rows slots : List ℤ) → a ≡ r .answer → columns ≡ over (r .columns) lentWidths → rows ≡ over (r .rows) lentWidths → slots ≡ over (r .slots) lentSlots → a .refusal .number ≡ 0 → sessionOf (caseOf (a .grid) columns rows slots) ≡ readSession r
+pub read-unrefused : (r : Read) (a : file.Answer) (columns rows slots : List ℤ) → a ≡ r .answer → columns ≡ over (r .columns) lentWidths → rows ≡ over (r .rows) lentWidths → slots ≡ over (r .slots) lentSlots → a .refusal .number ≡ 0 → sessionOf (caseOf (a .grid) columns rows slots) ≡ readSession r
 unfolding readSession caseIn
-read-accepted r a columns rows slots e f g h z = rw (← e, eq-eqb (a .refusal .number) 0 z) (λ i. sessionOf (caseOf (a .grid) (f i) (g i) (h i)))
+read-unrefused r a columns rows slots e f g h z = rw (← e, eq-eqb (a .refusal .number) 0 z) (λ i. sessionOf (caseOf (a .grid) (f i) (g i) (h i)))
 
 -- a file for which no refusal is printed was read
 pub file-unrefused : (file : List ℕ) → fileSession file .refusal .number ≡ 0 → fileSession file ≡ sessionOf (caseIn (readingOf file lentWidths lentWidths lentSlots))

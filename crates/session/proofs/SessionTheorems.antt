@@ -1,7 +1,7 @@
 -- What the program's numbers tell (document 01, "Numbers worked by hand"): of which case, which verdict, and which table stands where. Assumes nothing.
 use mathlib.Core.List.{List, _++_, append-assoc}
 use mathlib.Core.Logic.{_↔_}
-use mathlib.Core.Path.{_∙_, _≡_, sym}
+use mathlib.Core.Path.{_≡_}
 use Prim.Native.Nat.{_*_, _+_, _<_, ℕ}
 use lib.ListN.{drop, length, take}
 use lib.Seq.{drop-at, take-at}
@@ -11,8 +11,7 @@ use Rattle.verdict.specs.Acceptance.{Accepted}
 use Rattle.verdict.proofs.VerdictTheorems.{slices-accepted-exactly}
 use Rattle.budget.specs.Answers.{layerAnswer, wholeAnswer}
 use Rattle.casefile.specs.Reading.{readingOf}
-use Rattle.session.specs.declared.Session.{Session}
-use Rattle.session.specs.Sessions.{caseIn, fileSession, layersOf, lentSlots, lentWidths, linesEach, noLines, sessionOf, tablesOf}
+use Rattle.session.specs.Sessions.{caseIn, fileSession, layersOf, lentSlots, lentWidths, linesEach, noTables, sessionOf, tablesOf}
 use Rattle.session.proofs.SessionLaws.{file-unrefused, layer-among, layers-length, session-unrefused, tables-lines, whole-length}
 
 -- The table of a layer stands in its place among the lines that are printed.
@@ -21,7 +20,7 @@ unfolding tablesOf
 layer-lines c n l e =
     let whole = wholeAnswer c .lines in
     let layers = layersOf c (c .grid .layers) in
-    let rest = drop (length (tablesOf c)) noLines in
+    let rest = drop (length (tablesOf c)) noTables in
     rw (tables-lines c e, append-assoc layers whole rest) (layer-among c n (c .grid .layers) (whole ++ rest) l)
 
 -- The table of the whole stands behind those of the layers.
@@ -30,7 +29,7 @@ unfolding tablesOf
 whole-lines c e =
     let whole = wholeAnswer c .lines in
     let layers = layersOf c (c .grid .layers) in
-    let rest = drop (length (tablesOf c)) noLines in
+    let rest = drop (length (tablesOf c)) noTables in
     rw (tables-lines c e, append-assoc layers whole rest, drop-at layers (whole ++ rest) (linesEach * c .grid .layers) (layers-length c (c .grid .layers))) (take-at whole rest linesEach (whole-length c))
 
 -- Demand 2, of a file for which no refusal is printed: the program prints code 0 exactly where document 01 accepts the heads of the case in it.
@@ -41,11 +40,3 @@ file-accepted-exactly file e =
     let h = file-unrefused file e in
     let s = session-unrefused (caseIn r) (rw h at e) in
     rw (h, s .1) (slices-accepted-exactly (caseIn r) (s .0))
-
--- One outcome: two sessions that a contract permits are equal, refusals too: of slices,
-pub one-session : (c : Case) (r s : Session) → r ≡ sessionOf c → s ≡ sessionOf c → r ≡ s
-one-session c r s e f = e ∙ sym f
-
--- and of a file.
-pub one-file-session : (file : List ℕ) (r s : Session) → r ≡ fileSession file → s ≡ fileSession file → r ≡ s
-one-file-session file r s e f = e ∙ sym f

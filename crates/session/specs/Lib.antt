@@ -1,1 +1,2 @@
+-- The definitions of `session`, for the crates above.
 pub mod Sessions

@@ -5,15 +5,15 @@ use Prim.Native.Nat.{_+_, suc, zero, ℕ}
 use lib.Dec.{eqb, ltb}
 use lib.IntN.{pos, ℤ}
 use lib.ListN.{length, replicate}
+use Rattle.whole.specs.Lent.{over}
 use Rattle.grid.specs.Units.{mostAcross}
 use Rattle.slices.specs.declared.Refusal.{Refusal}
-use Rattle.slices.specs.Slices.{Case, caseOf, none, refusal}
+use Rattle.slices.specs.Slices.{Case, caseOf, none, refusal, unlessRefused}
 use Rattle.verdict.specs.declared.Verdict.{Verdict}
-use Rattle.verdict.specs.Ruling.{answerOf, noVerdict}
+use Rattle.verdict.specs.Ruling.{verdictAnswer, noVerdict}
 use Rattle.budget.specs.Answers.{layerAnswer, wholeAnswer}
 use Rattle.casefile.specs.Fields.{mostSlots}
 use Rattle.casefile.specs.Reading.{Read, readingOf}
-use Rattle.casefile.specs.Runs.{over}
 use Rattle.session.specs.declared.Session.{Session}
 
 -- lines of a table: "two rows, fresh and salt, of nine lines"
@@ -29,12 +29,12 @@ abbrev pub mostFile : ℕ
 mostFile = 28672
 
 -- lines that are all 0
-abbrev pub noLines : List ℤ
-noLines = replicate mostLines (pos 0)
+abbrev pub noTables : List ℤ
+noTables = replicate mostLines (pos 0)
 
 -- "a refusal prints `refused`, number, block": beside it all is 0
 abbrev pub refusing : Refusal → Session
-refusing r = record { refusal = r; verdict = noVerdict; tables = 0; lines = noLines }
+refusing r = record { refusal = r; verdict = noVerdict; tables = 0; lines = noTables }
 
 -- "With verdict 21 or 22 only the first line is printed"
 abbrev pub firstLineOnly : ℕ → Bool
@@ -45,24 +45,24 @@ unfoldable pub layersOf : Case → ℕ → List ℤ
 layersOf c zero = []
 layersOf c (suc n) = layersOf c n ++ layerAnswer c (suc n) .lines
 
--- and then the table of the whole
+-- all tables, "table lines in their order, layers from 1", and then the table of the whole
 unfoldable pub tablesOf : Case → List ℤ
 tablesOf c = layersOf c (c .grid .layers) ++ wholeAnswer c .lines
 
 -- a verdict by itself, and with the tables
 abbrev pub alone : Verdict → Session
-alone v = record { refusal = none; verdict = v; tables = 0; lines = noLines }
+alone v = record { refusal = none; verdict = v; tables = 0; lines = noTables }
 
 abbrev pub withTables : Case → Verdict → Session
-withTables c v = record { refusal = none; verdict = v; tables = c .grid .layers + 1; lines = over (tablesOf c) noLines }
+withTables c v = record { refusal = none; verdict = v; tables = c .grid .layers + 1; lines = over (tablesOf c) noTables }
 
 -- what is printed beside an answer that is no refusal
 unfoldable pub ruling : Case → Verdict → Session
 ruling c v = cond (firstLineOnly (v .code)) (alone v) (withTables c v)
 
--- what is printed for a case in slices
+-- "It prints, in full": what is printed for a case in slices
 unfoldable pub sessionOf : Case → Session
-sessionOf c = cond (eqb (answerOf c .refusal .number) 0) (ruling c (answerOf c .verdict)) (refusing (answerOf c .refusal))
+sessionOf c = unlessRefused (verdictAnswer c .refusal) (ruling c (verdictAnswer c .verdict)) (refusing (verdictAnswer c .refusal))
 
 -- the slices that the program lends to the reader
 abbrev pub lentWidths : List ℤ
@@ -77,7 +77,7 @@ caseIn r = caseOf (r .answer .grid) (over (r .columns) lentWidths) (over (r .row
 
 -- what is printed for a file that is not too long
 unfoldable pub readSession : Read → Session
-readSession r = cond (eqb (r .answer .refusal .number) 0) (sessionOf (caseIn r)) (refusing (r .answer .refusal))
+readSession r = unlessRefused (r .answer .refusal) (sessionOf (caseIn r)) (refusing (r .answer .refusal))
 
 -- "The program reads standard input": what is printed for a file
 unfoldable pub fileSession : List ℕ → Session

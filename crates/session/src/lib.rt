@@ -3,8 +3,8 @@
 ghost use mathlib.Core.Path.{_≡_};
 ghost use Prim.Native.Nat.{_*_, _+_, _≤_};
 ghost use lib.ListN.{length};
+ghost use Rattle.whole.specs.Lent.{over};
 ghost use Rattle.slices.specs.Slices.{caseOf};
-ghost use Rattle.casefile.specs.Runs.{over};
 ghost use Rattle.session.specs.Sessions.{
   firstLineOnly,
   layersOf,
@@ -15,7 +15,6 @@ ghost use Rattle.session.specs.Sessions.{
 };
 use budget::layer_table;
 use budget::whole_table;
-use casefile::copy_front;
 use casefile::fields::MOST_SLOTS;
 use casefile::read_case;
 use grid::Grid;
@@ -25,9 +24,10 @@ use slices::Refusal;
 use verdict::NO_VERDICT;
 use verdict::Verdict;
 use verdict::verdict_of_slices;
+use whole::lent::copy_front;
 
 // A refusal, or beside number 0 a verdict and how many tables follow it: one for each layer from 1 and one for the whole, or none. A table has eighteen
-// lines, as in `budget`, and the tables stand one after the other; all lines behind them are 0. Beside a refusal all is 0.
+// lines, litres a day, as in `budget`, and the tables stand one after the other; all lines behind them are 0. Beside a refusal all is 0.
 pub struct Session {
     pub refusal: Refusal,
     pub verdict: Verdict,
@@ -36,12 +36,13 @@ pub struct Session {
 }
 
 // Lines of a table.
-pub const LINES: usize = 18;
+pub const LINES_EACH: usize = 18;
 
 // The most tables: one for each of the most layers and one for the whole.
 pub const MOST_TABLES: usize = MOST_LAYERS + 1;
 
-const MOST_LINES: usize = LINES * MOST_TABLES;
+// Lines of the most tables.
+const MOST_LINES: usize = LINES_EACH * MOST_TABLES;
 
 // 8: "in the program, before all else, a file above 28,672 bytes".
 pub const MOST_FILE: usize = 28_672;
@@ -78,7 +79,7 @@ fn fill_layers(g: Grid, columns: &[i64], rows: &[i64], slots: &[i64], out: &mut 
     for layer in 0..layers {
         let answer = layer_table(g, columns, rows, slots, layer + 1);
         let lines = answer.lines;
-        let at = LINES * layer;
+        let at = LINES_EACH * layer;
         copy_front(&lines, &mut out[at..]);
     }
 }
@@ -92,7 +93,7 @@ fn fill_tables(g: Grid, columns: &[i64], rows: &[i64], slots: &[i64], out: &mut 
     fill_layers(g, columns, rows, slots, out);
     let answer = whole_table(g, columns, rows, slots);
     let lines = answer.lines;
-    let at = LINES * g.layers;
+    let at = LINES_EACH * g.layers;
     copy_front(&lines, &mut out[at..]);
 }
 

@@ -1,3 +1,4 @@
 -- Laws of judging and worked numbers. They hold nothing to believe.
 pub mod SlicesLaws
 pub mod WorkedTheorems
+pub mod OutcomeTheorems

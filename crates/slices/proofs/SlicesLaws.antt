@@ -5,13 +5,13 @@ use mathlib.Core.Path.{_∙_, _≡_, ap, refl, sym}
 use Prim.Native.Nat.{_*_, _<_, _≤_, suc, zero, ℕ}
 use native.Mathlib.Decide.{ℕ-discrete}
 use native.Mathlib.Omega.{arith}
-use lib.Dec.{T, eqb, leb, leb→le}
+use lib.Dec.{T, eqb, leb, leb→le, le→leb}
 use lib.IntN.{pos, ℤ}
 use lib.ListN.{length}
 use borrow.Author.Tests.{eq-eqb, ne-eqb, not-false}
 use Rattle.whole.specs.declared.ranges.Range.{Range}
 use Rattle.whole.specs.Ranges.{allWithin, between}
-use Rattle.whole.proofs.SearchLaws.{both, first-none, holds}
+use Rattle.whole.proofs.SearchLaws.{both, first-none, holds, joint, true-is}
 use Rattle.whole.proofs.WithinLaws.{within-at}
 use Rattle.grid.specs.declared.Grid.{Grid}
 use Rattle.grid.specs.Judging.{countsHold, termsHold}
@@ -120,6 +120,15 @@ room-roomy c t =
     let b = both (leb (c .grid .rows) (length (c .rows))) (leb (slotsEach * blocksOf (c .grid)) (length (c .slots))) (a .1) in
     record { columns = leb→le _ _ (a .0); rows = leb→le _ _ (b .0); slots = leb→le _ _ (b .1) }
 
+-- slices that are long enough pass 7
+pub roomy-room : (c : Case) → Roomy c → roomHolds c ≡ true
+unfolding roomHolds
+roomy-room c h =
+    let columns = leb (c .grid .columns) (length (c .columns)) in
+    let rows = leb (c .grid .rows) (length (c .rows)) in
+    let slots = leb (slotsEach * blocksOf (c .grid)) (length (c .slots)) in
+    true-is (joint columns (rows && slots) (le→leb _ _ (h .columns)) (joint rows slots (le→leb _ _ (h .rows)) (le→leb _ _ (h .slots))))
+
 faultless : (g : Grid) (slots : List ℤ) → faultOf g slots ≡ 0 → (i : ℕ) → i < blocksOf g → T (slotsHold (partOf slots i) (topOf g i))
 unfolding faultOf
 faultless g slots e i l =
@@ -132,6 +141,16 @@ shape-stands c e = (
   counts-counted (c .grid) (holds-among 3 (countsHold (c .grid)) (omega arith) (search (here, later)) e),
   room-roomy c (holds-among 7 (roomHolds c) (omega arith) (search (here, later)) e),
 )
+
+-- nor do they, where the counts are in range and there is room
+pub shape-passes : (c : Case) → T (countsHold (c .grid)) → Roomy c → firstRefusal (shapeOf c) .number ≡ 0
+unfolding shapeOf firstRefusal orElse
+shape-passes c t m = rw (true-is {b = countsHold (c .grid)} t, roomy-room c m) refl
+
+-- 4, 5 and 6 refuse nothing where the terms, the widths and the blocks pass
+pub contents-pass : (c : Case) → termsHold (c .grid) ≡ true → widthsHold (c .grid) (c .columns) (c .rows) ≡ true → faultOf (c .grid) (c .slots) ≡ 0 → firstRefusal (contentsOf c) .number ≡ 0
+unfolding contentsOf firstRefusal orElse
+contents-pass c t w f = rw (t, w, f) refl
 
 -- 4, 5 and 6 did not refuse
 abbrev wide : Range

@@ -1,1 +1,2 @@
+-- The definitions of `slices`, for the crates above.
 pub mod Slices

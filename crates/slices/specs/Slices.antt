@@ -29,9 +29,11 @@ caseOf g columns rows slots = record { grid = g; columns = columns; rows = rows;
 
 -- ---- refusals
 
+-- no refusal
 abbrev pub none : Refusal
 none = record { number = 0; block = 0 }
 
+-- a refusal by its number and the block that it names, counted from 1
 abbrev pub refusal : ℕ → ℕ → Refusal
 refusal n b = record { number = n; block = b }
 
@@ -45,9 +47,13 @@ abbrev pub blaming : ℕ → ℕ → Refusal
 blaming n zero = none
 blaming n (suc b) = refusal n (suc b)
 
--- the first that is a refusal
+-- the first where nothing is refused, the second otherwise
+abbrev pub unlessRefused : {A : Type 0} → Refusal → A → A → A
+unlessRefused r given otherwise = cond (eqb (r .number) 0) given otherwise
+
+-- the first that is a refusal, of two and of a list
 unfoldable pub orElse : Refusal → Refusal → Refusal
-orElse x y = cond (eqb (x .number) 0) y x
+orElse x y = unlessRefused x y x
 
 unfoldable pub firstRefusal : List Refusal → Refusal
 firstRefusal [] = none
@@ -71,10 +77,11 @@ widthsHold g columns rows = allWithin (between (pos 1) (pos mostWidth)) columns 
 unfoldable pub faultOf : Grid → List ℤ → ℕ
 faultOf g slots = firstOf (blocksOf g) (λ i. not (slotsHold (partOf slots i) (topOf g i)))
 
--- 3 and 7, which say that a case is there, and then 4, 5 and 6
+-- "Slices are judged 3, 7, 4, 5, 6": the first two, which say that a case is there
 unfoldable pub shapeOf : Case → List Refusal
 shapeOf c = unless 3 (countsHold (c .grid)) ∷ unless 7 (roomHolds c) ∷ []
 
+-- "Slices are judged 3, 7, 4, 5, 6": the last three, of a case that is there
 unfoldable pub contentsOf : Case → List Refusal
 contentsOf c =
     unless 4 (termsHold (c .grid))
@@ -82,17 +89,19 @@ contentsOf c =
     ∷ blaming 6 (faultOf (c .grid) (c .slots))
     ∷ []
 
--- "Slices are judged 3, 7, 4, 5, 6"
+-- "Slices are judged 3, 7, 4, 5, 6": the first of these that refuses the case
 abbrev pub judgedOf : Case → Refusal
 judgedOf c = firstRefusal (shapeOf c ++ contentsOf c)
 
 -- ---- what later parts require of a case: what it is not refused for
 
+-- 7: the lent slices are long enough
 pub record Roomy (c : Case) : Type 0 where
   pub columns : c .grid .columns ≤ length (c .columns)
   pub rows : c .grid .rows ≤ length (c .rows)
   pub slots : slotsEach * blocksOf (c .grid) ≤ length (c .slots)
 
+-- 3, 7, 4, 5 and 6: counts, room, terms, widths in metres, and the slots of active and of inactive blocks
 pub record Judged (c : Case) : Type 0 where
   pub counted : Counted (c .grid)
   pub roomy : Roomy c

@@ -21,7 +21,7 @@ use grid::judging::terms_hold;
 use grid::place::blocks;
 use grid::place::is_top;
 use slots::rules::slots_hold;
-use slots::units::SLOTS;
+use slots::units::SLOTS_EACH;
 use whole::ranges::Range;
 use whole::ranges::all_within;
 
@@ -34,26 +34,27 @@ pub struct Refusal {
 // Metres.
 const MOST_WIDTH: i64 = 4_096;
 
+// Column and row widths, metres.
 pub const WIDTHS: Range = Range {
     lower: 1,
     upper: MOST_WIDTH,
 };
 
 // 7: "a lent slice is too short". Inner: the counts are in range.
-pub fn room_holds(g: Grid, columns: &[i64], rows: &[i64], slots: &[i64]) -> bool
+fn room_holds(g: Grid, columns: &[i64], rows: &[i64], slots: &[i64]) -> bool
     requires { ⌜ Counted g ⌝ }
     ensures { λ r. ⌜ r ≡ roomHolds (caseOf g (now (columns .entry)) (now (rows .entry)) (now (slots .entry))) ⌝ }
 {
     if g.columns <= columns.len() {
         if g.rows <= rows.len() {
-            return SLOTS * blocks(g) <= slots.len();
+            return SLOTS_EACH * blocks(g) <= slots.len();
         }
     }
     false
 }
 
-// 5: "a width is out of range", of columns and rows in metres. Inner: the case is there.
-pub fn widths_hold(g: Grid, columns: &[i64], rows: &[i64]) -> bool
+// 5: "a width is out of range", of columns and rows in metres. Inner: both slices are long enough.
+fn widths_hold(g: Grid, columns: &[i64], rows: &[i64]) -> bool
     requires { ⌜ g .columns ≤ length (now columns) ⌝ }
     requires { ⌜ g .rows ≤ length (now rows) ⌝ }
     ensures { λ r. ⌜ r ≡ widthsHold g (now (columns .entry)) (now (rows .entry)) ⌝ }
@@ -65,14 +66,14 @@ pub fn widths_hold(g: Grid, columns: &[i64], rows: &[i64]) -> bool
 }
 
 // 6: "a slot is out of range": the first block at fault, or 0. Inner: the counts are in range and the slots reach so far.
-pub fn first_fault(g: Grid, slots: &[i64]) -> usize
+fn first_fault(g: Grid, slots: &[i64]) -> usize
     requires { ⌜ Counted g ⌝ }
     requires { ⌜ 16 * blocksOf g ≤ length (now slots) ⌝ }
     ensures { λ r. ⌜ r ≡ faultOf g (now (slots .entry)) ⌝ }
 {
     let total = blocks(g);
     for block in 0..total {
-        let at = SLOTS * block;
+        let at = SLOTS_EACH * block;
         if !slots_hold(&slots[at..], is_top(g, block)) {
             return block + 1;
         }
@@ -80,7 +81,7 @@ pub fn first_fault(g: Grid, slots: &[i64]) -> usize
     0
 }
 
-// 3, then 7: whether the case is there.
+// 3, then 7: whether a case is there, its counts in range and its slices long enough.
 pub fn shape(g: Grid, columns: &[i64], rows: &[i64], slots: &[i64]) -> Refusal
     ensures { λ r. ⌜ r ≡ firstRefusal (shapeOf (caseOf g (now (columns .entry)) (now (rows .entry)) (now (slots .entry)))) ⌝ }
 {
@@ -102,8 +103,8 @@ pub fn shape(g: Grid, columns: &[i64], rows: &[i64], slots: &[i64]) -> Refusal
     }
 }
 
-// 4, then 5, then 6. Inner: the case is there.
-pub fn contents(g: Grid, columns: &[i64], rows: &[i64], slots: &[i64]) -> Refusal
+// 4, then 5, then 6. Inner: 3 and 7 do not refuse the case.
+fn contents(g: Grid, columns: &[i64], rows: &[i64], slots: &[i64]) -> Refusal
     requires { ⌜ Counted g ⌝ }
     requires { ⌜ Roomy (caseOf g (now columns) (now rows) (now slots)) ⌝ }
     ensures { λ r. ⌜ r ≡ firstRefusal (contentsOf (caseOf g (now (columns .entry)) (now (rows .entry)) (now (slots .entry)))) ⌝ }
@@ -132,7 +133,7 @@ pub fn contents(g: Grid, columns: &[i64], rows: &[i64], slots: &[i64]) -> Refusa
 
 // The first of 3, 7, 4, 5 and 6 that a case in slices is refused with, and the block that it names. `columns` and `rows` are the
 // widths in metres. Any numbers, and slices of any length, are judged.
-pub fn judge(g: Grid, columns: &[i64], rows: &[i64], slots: &[i64]) -> Refusal
+pub fn judge_ranges(g: Grid, columns: &[i64], rows: &[i64], slots: &[i64]) -> Refusal
     ensures { λ r. ⌜ r ≡ judgedOf (caseOf g (now (columns .entry)) (now (rows .entry)) (now (slots .entry))) ⌝ }
 {
     let first = shape(g, columns, rows, slots);

@@ -1,2 +1,3 @@
 -- Laws of a block's slots. They hold nothing to believe.
 pub mod SlotsLaws
+pub mod OutcomeTheorems

@@ -1,20 +1,20 @@
 -- Laws of a block's slots: the table's rule, and what slots that stand tell of each slot. Assumes nothing.
 use mathlib.Core.Path.{_≡_, refl, sym, ap, ap₂, _∙_}
-use mathlib.Core.Bool.{Bool, true, false, not, cond, _&&_}
+use mathlib.Core.Bool.{Bool, not, _&&_}
 use mathlib.Core.List.{List, [], _∷_}
-use Prim.Native.Nat.{ℕ, zero, suc, _+_, _*_, _-_, _<_}
+use Prim.Native.Nat.{ℕ, zero, suc, _+_, _*_, _<_}
 use native.Mathlib.Omega.{arith}
 use lib.Dec.{T}
 use lib.IntN.{ℤ, pos, negℤ}
-use lib.ListN.{length, getD, take, drop, length-drop}
-use lib.Seq.{take-all, getD-drop}
+use lib.ListN.{getD}
+use lib.Seq.{getD-drop}
 use lib.Signed.{_≤ℤ_, leZ, leZ-yes, ltZ-yes}
 use Rattle.whole.specs.declared.ranges.Range.{Range}
 use Rattle.whole.specs.Whole.{In}
 use Rattle.whole.specs.Search.{every}
 use Rattle.whole.specs.Ranges.{between, inRange, allWithin}
 use Rattle.whole.proofs.OrderLaws.{≤ℤ-antisymm, one-least}
-use Rattle.whole.proofs.SearchLaws.{both, every-all}
+use Rattle.whole.proofs.SearchLaws.{both, every-all, cond-true, cond-false}
 use Rattle.whole.proofs.WithinLaws.{range-in, within-at}
 use Rattle.slots.specs.Units.{slotsEach, mostPumpage}
 use Rattle.slots.specs.Ranges.{rangeOf, endsHold}
@@ -39,12 +39,7 @@ table-ruled slot l =
     let k = both (leZ (r .lower) (r .upper)) (leZ (r .upper) (pos mostPumpage)) (h .1) in
     record { least = leZ-yes (h .0); ordered = leZ-yes (k .0); most = leZ-yes (k .1) }
 
--- ---- the part of the slots that is lent from a block on
-
-pub part-all : (slots : List ℤ) (i : ℕ) → take (length slots - slotsEach * i) (drop (slotsEach * i) slots) ≡ partOf slots i
-part-all slots i = take-all (length slots - slotsEach * i) (drop (slotsEach * i) slots) (simp length-drop (omega arith))
-
--- K stands first
+-- ---- K stands first
 pub first-slot : (slots : List ℤ) (i : ℕ) → getD slots (slotsEach * i) (pos 0) ≡ blockOf slots i .k
 unfolding slotsAt
 first-slot slots i = ap (λ (k : ℕ). getD slots k (pos 0)) (same (slotsEach * i)) ∙ sym (getD-drop (slotsEach * i) slots 0 (pos 0))
@@ -105,14 +100,6 @@ module _ (s : List ℤ) (t : T (endsHold s)) where
     new-fresh = end-at 14 (omega arith);
     new-salt = end-at 15 (omega arith);
   }
-
-cond-true : (c a b : Bool) → T (cond c a b) → T c → T a
-cond-true true a b t u = t
-cond-true false a b t u = absurd u
-
-cond-false : (c a b : Bool) → T (cond c a b) → T (not c) → T b
-cond-false true a b t u = absurd u
-cond-false false a b t u = t
 
 module _ (s : List ℤ) (top : Bool) (t : T (slotsHold s top)) where
   pub slots-active : T (isActive (slotsAt s)) → Active (slotsAt s) top

@@ -1,3 +1,4 @@
+-- The definitions of `slots`, for the crates above.
 pub mod Units
 pub mod Ranges
 pub mod Slots

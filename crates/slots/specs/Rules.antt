@@ -26,12 +26,12 @@ screensHold b =
     (isZero (b .«screen_bottom») && isZero (b .«screen_top»))
     (screenWithin (b .base) (b .«screen_bottom») (b .«screen_top») (b .base +ℤ b .thickness))
 
--- "leakance to the block above | 0 in the top layer"; "recharge | 0 below the top layer"
+-- "leakance to the block above, 10⁻⁶/day | .. 0 in the top layer"; "recharge, µm/day | .. 0 below the top layer"
 unfoldable pub layerHolds : Block → Bool → Bool
 layerHolds b true = isZero (b .leakance)
 layerHolds b false = isZero (b .recharge)
 
--- "boundary kind | 1 river, 2 sea"
+-- "boundary kind | .. 1 river, 2 sea"
 abbrev pub isOpen : Block → Bool
 isOpen b = inRange (between (pos 1) (pos 2)) (b .kind)
 
@@ -50,7 +50,7 @@ boundaryHolds b top =
 unfoldable pub rulesHold : Block → Bool → Bool
 rulesHold b top = screensHold b && (layerHolds b top && boundaryHolds b top)
 
--- a block's slots stand, in the top layer or below it
+-- 6: "a slot is out of range": whether a block's slots stand, in the top layer or below it
 unfoldable pub slotsHold : List ℤ → Bool → Bool
 slotsHold s top = cond (isActive (slotsAt s)) (endsHold s && rulesHold (slotsAt s) top) (allZero s)
 

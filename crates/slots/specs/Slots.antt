@@ -39,7 +39,7 @@ partOf slots i = drop (slotsEach * i) slots
 abbrev pub blockOf : List ℤ → ℕ → Block
 blockOf slots i = slotsAt (partOf slots i)
 
--- "K, mm/day | 0 is inactive"
+-- "K, mm/day | .. 0 is inactive"
 abbrev pub isActive : Block → Bool
 isActive b = ltZ (pos 0) (b .k)
 

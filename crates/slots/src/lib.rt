@@ -8,7 +8,7 @@ ghost use mathlib.Core.Path.{_≡_};
 ghost use Prim.Native.Nat.{_+_, _*_, _≤_};
 ghost use lib.ListN.{length};
 ghost use Rattle.slots.specs.Slots.{slotsAt, blockOf, isActive};
-use units::SLOTS;
+use units::SLOTS_EACH;
 
 // A block's slots. Units: ticks for base, thickness, screens, level and heads; mm/day for k; per mille for porosity; 10^-6 a day
 // for the leakances; µm/day for recharge; litres a day for pumpage, positive where taken out. The level is the stage of a river or
@@ -62,7 +62,7 @@ pub fn is_active(slots: &[i64], block: usize) -> bool
     requires { ⌜ 16 * block + 16 ≤ length (now slots) ⌝ }
     ensures { λ r. ⌜ r ≡ isActive (blockOf (now (slots .entry)) block) ⌝ }
 {
-    let at = SLOTS * block;
+    let at = SLOTS_EACH * block;
     0 < slots[at]
 }
 
@@ -71,6 +71,6 @@ pub fn load(slots: &[i64], block: usize) -> Block
     requires { ⌜ 16 * block + 16 ≤ length (now slots) ⌝ }
     ensures { λ r. ⌜ r ≡ blockOf (now (slots .entry)) block ⌝ }
 {
-    let at = SLOTS * block;
+    let at = SLOTS_EACH * block;
     slots_at(&slots[at..])
 }

@@ -12,7 +12,7 @@ use super::units::MOST_PUMPAGE;
 use super::units::MOST_RECHARGE;
 use super::units::MOST_SCREEN;
 use super::units::MOST_THICKNESS;
-use super::units::SLOTS;
+use super::units::SLOTS_EACH;
 use whole::ranges::Range;
 use whole::ranges::in_range;
 
@@ -104,7 +104,7 @@ const RANGES: [Range; 16] = [
 pub fn range_of(slot: usize) -> Range
     ensures { λ r. ⌜ r ≡ rangeOf slot ⌝ }
 {
-    if slot < SLOTS {
+    if slot < SLOTS_EACH {
         RANGES[slot]
     } else {
         Range { lower: 0, upper: 0 }
@@ -116,7 +116,7 @@ pub fn ends_hold(part: &[i64]) -> bool
     requires { ⌜ 16 ≤ length (now part) ⌝ }
     ensures { λ r. ⌜ r ≡ endsHold (now (part .entry)) ⌝ }
 {
-    for slot in 0..SLOTS {
+    for slot in 0..SLOTS_EACH {
         let value = part[slot];
         if !in_range(range_of(slot), value) {
             return false;

@@ -19,23 +19,23 @@ ghost use Rattle.slots.specs.Slots.{Ends};
 use super::Block;
 use super::ranges::ends_hold;
 use super::slots_at;
-use super::units::SLOTS;
+use super::units::SLOTS_EACH;
 use whole::ranges::Range;
 use whole::ranges::all_within;
 use whole::ranges::in_range;
 
-// Both ends 0.
+// 0 alone.
 const ZERO: Range = Range { lower: 0, upper: 0 };
 
 // The kinds that exchange water: 1 river, 2 sea.
 pub const OPEN_KINDS: Range = Range { lower: 1, upper: 2 };
 
 // "An inactive block has all 16 zero." Inner: there are so many.
-pub fn all_zero(part: &[i64]) -> bool
+fn all_zero(part: &[i64]) -> bool
     requires { ⌜ 16 ≤ length (now part) ⌝ }
     ensures { λ r. ⌜ r ≡ allZero (now (part .entry)) ⌝ }
 {
-    all_within(part, SLOTS, ZERO)
+    all_within(part, SLOTS_EACH, ZERO)
 }
 
 // Whether both are 0.
@@ -61,7 +61,7 @@ fn screen_within(base: i64, bottom: i64, top: i64, aquifer_top: i64) -> bool
 }
 
 // "base ≤ bottom < top ≤ aquifer top; both 0 if pumpage is 0". Inner: the slots are within their ends.
-pub fn screens_hold(block: Block) -> bool
+fn screens_hold(block: Block) -> bool
     requires { ⌜ Ends block ⌝ }
     ensures { λ r. ⌜ r ≡ screensHold block ⌝ }
 {
@@ -77,7 +77,7 @@ pub fn screens_hold(block: Block) -> bool
 }
 
 // Leakance is "0 in the top layer", recharge "0 below the top layer". Inner: the slots are within their ends.
-pub fn layer_holds(block: Block, top: bool) -> bool
+fn layer_holds(block: Block, top: bool) -> bool
     requires { ⌜ Ends block ⌝ }
     ensures { λ r. ⌜ r ≡ layerHolds block top ⌝ }
 {
@@ -111,7 +111,7 @@ pub fn is_open(block: Block) -> bool
 
 // "Kinds 1 and 2 occur only in the top layer." "Kinds other than 1 and 2 have zero in their two boundary slots."
 // Inner: the slots are within their ends.
-pub fn boundary_holds(block: Block, top: bool) -> bool
+fn boundary_holds(block: Block, top: bool) -> bool
     requires { ⌜ Ends block ⌝ }
     ensures { λ r. ⌜ r ≡ boundaryHolds block top ⌝ }
 {
@@ -125,7 +125,7 @@ pub fn boundary_holds(block: Block, top: bool) -> bool
 }
 
 // "a block's remaining slot rules (screens, kind, layer)". Inner: the slots are within their ends.
-pub fn rules_hold(block: Block, top: bool) -> bool
+fn rules_hold(block: Block, top: bool) -> bool
     requires { ⌜ Ends block ⌝ }
     ensures { λ r. ⌜ r ≡ rulesHold block top ⌝ }
 {

@@ -1,7 +1,7 @@
 // The limits of a block's slots (document 01, "Units and ranges"), each by name. specs/Units.antt has the same names and numbers.
 
 // Slots of a block.
-pub const SLOTS: usize = 16;
+pub const SLOTS_EACH: usize = 16;
 // mm/day.
 pub const MOST_K: i64 = 1_000_000;
 // Ticks: a base, a head, a stage or a floor, up or down from sea level.
@@ -19,4 +19,5 @@ pub const MOST_PUMPAGE: i64 = 1_073_741_824;
 // Ticks: the highest aquifer top.
 pub const MOST_SCREEN: i64 = 8_388_608;
 
+// The last boundary kind: "5 both fixed".
 pub const MOST_KIND: i64 = 5;

@@ -4,3 +4,4 @@ pub mod RulingLaws
 pub mod AcceptanceLaws
 pub mod VerdictTheorems
 pub mod WorkedTheorems
+pub mod OutcomeTheorems

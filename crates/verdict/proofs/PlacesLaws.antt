@@ -15,14 +15,14 @@ use Rattle.whole.specs.Whole.{isZero}
 use Rattle.whole.proofs.LinearLaws.{#, from1, from2, linear, signed}
 use Rattle.whole.proofs.OrderLaws.{zero-is}
 use Rattle.whole.proofs.RangeLaws.{lt-false, lt-true}
-use Rattle.whole.proofs.SearchLaws.{holds}
+use Rattle.whole.proofs.SearchLaws.{holds, not-second}
 use Rattle.whole.proofs.SumLaws.{only-on}
 use Rattle.grid.specs.declared.Grid.{Grid}
 use Rattle.slots.specs.Slots.{blockOf}
 use Rattle.block.specs.declared.Fluids.{Fluids}
 use Rattle.block.specs.Fluids.{inFluid, newHeads, oldHeads}
 use Rattle.wellformed.specs.Links.{activeOf}
-use Rattle.books.specs.Terms.{fixedOf}
+use Rattle.books.specs.Own.{fixedOf}
 use Rattle.balance.specs.Balance.{Bounded}
 use Rattle.verdict.specs.Places.{countedAt, countedBy, failsAt, freeAt, freeSizeOf, movedAt, sizeOf}
 
@@ -131,11 +131,7 @@ unmoved slots fluid i h = go (activeOf slots i) (fixedOf (blockOf slots i) fluid
 -- a free place that does not fail
 pub within-tolerance : (g : Grid) (slots : List ℤ) (β : ℕ → Fluids) (fluid i : ℕ) → failsAt g slots β fluid i ≡ false → T (freeAt slots fluid i) → sizeOf (inFluid (β i) fluid) ≤ℤ g .tolerance
 unfolding failsAt
-within-tolerance g slots β fluid i e t = lt-false (g .tolerance) (sizeOf (inFluid (β i) fluid)) (go (freeAt slots fluid i) t e)
-  where
-    go : (a : Bool) {b : Bool} → T a → a && b ≡ false → b ≡ false
-    go true t e = e
-    go false t e = absurd t
+within-tolerance g slots β fluid i e t = lt-false (g .tolerance) (sizeOf (inFluid (β i) fluid)) (not-second (freeAt slots fluid i) (ltZ (g .tolerance) (sizeOf (inFluid (β i) fluid))) e t)
 
 not-above : (x y : ℤ) → y ≤ℤ x → ltZ x y ≡ false
 not-above x y h = go (ltZ x y) refl

@@ -16,7 +16,7 @@ use Rattle.grid.specs.declared.Grid.{Grid}
 use Rattle.grid.specs.Place.{blocksOf}
 use Rattle.slices.specs.declared.Refusal.{Refusal}
 use Rattle.block.specs.declared.Fluids.{Fluids}
-use Rattle.books.specs.Blocks.{Slotted, dryAt}
+use Rattle.books.specs.Waters.{Slotted, dryAt}
 use Rattle.verdict.specs.declared.Answer.{Answer}
 use Rattle.verdict.specs.declared.Verdict.{Verdict}
 use Rattle.verdict.specs.Places.{countedAt, countedBy, failsAt, freeSizeOf, movedAt, placesOf}

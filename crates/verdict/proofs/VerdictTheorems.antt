@@ -19,12 +19,11 @@ use Rattle.slices.specs.Slices.{Case}
 use Rattle.block.specs.declared.Fluids.{Fluids}
 use Rattle.block.specs.Fluids.{inFluid}
 use Rattle.wellformed.specs.Limits.{checkedOf}
-use Rattle.books.specs.Blocks.{dryAt}
+use Rattle.books.specs.Waters.{dryAt}
 use Rattle.balance.specs.Balance.{balancesOf}
-use Rattle.verdict.specs.declared.Answer.{Answer}
 use Rattle.verdict.specs.Acceptance.{Accepted, First, Nowhere, Wet}
 use Rattle.verdict.specs.Places.{countedAt, failsAt, freeAt, freeSizeOf, movedAt, placesOf, sizeOf}
-use Rattle.verdict.specs.Ruling.{answerOf, blockNumber, byBalance, countOf, firstPlace, largestOf, verdictBy, verdictOf}
+use Rattle.verdict.specs.Ruling.{verdictAnswer, blockNumber, byBalance, countOf, firstPlace, largestOf, verdictBy, verdictOf}
 use Rattle.verdict.proofs.AcceptanceLaws.{bounds-all, dry-code, dry-none, failing-code, fails-counted, fails-none, first-as, first-told, largest-told, moved-code, moved-none, none-dry, none-fails, none-moved, passed-code, reached-all, told-first}
 use Rattle.verdict.proofs.PlacesLaws.{block-below, block-of, fluid-below, fluid-of, free-size-off, free-size-on, holds-within, size-least, still, unmoved, within-tolerance}
 use Rattle.verdict.proofs.RulingLaws.{Way, balance-block, balance-count, block-is, block-number, by-the-balances, count-failing, count-is, count-of-none, dry, dry-wells, failing, failing-counted, largest-is, moved, none-of-count, passed, way}
@@ -229,10 +228,6 @@ module _ (g : Grid) (slots : List ℤ) (β : ℕ → Fluids) where
 -- ---- of a case in slices
 
 -- Demand 2, of what the client is answered: heads of a case that is not refused are accepted exactly where document 01 accepts them.
-pub slices-accepted-exactly : (c : Case) → checkedOf c .number ≡ 0 → (answerOf c .verdict .code ≡ 0) ↔ Accepted (c .grid) (c .slots) (balancesOf c)
-unfolding answerOf verdictOf
+pub slices-accepted-exactly : (c : Case) → checkedOf c .number ≡ 0 → (verdictAnswer c .verdict .code ≡ 0) ↔ Accepted (c .grid) (c .slots) (balancesOf c)
+unfolding verdictAnswer verdictOf
 slices-accepted-exactly c e = rw (eq-eqb (checkedOf c .number) 0 e) (accepted-exactly (c .grid) (c .slots) (balancesOf c))
-
--- One outcome: two answers that the contract permits are equal, refusals too. Every slice is lent as &, so no lent memory changes.
-pub one-verdict : (c : Case) (r s : Answer) → r ≡ answerOf c → s ≡ answerOf c → r ≡ s
-one-verdict c r s e f = e ∙ sym f

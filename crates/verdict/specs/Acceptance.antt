@@ -14,15 +14,15 @@ use Rattle.slots.specs.Slots.{blockOf}
 use Rattle.block.specs.declared.Fluids.{Fluids}
 use Rattle.block.specs.Fluids.{inFluid, newHeads, oldHeads}
 use Rattle.wellformed.specs.Links.{activeOf}
-use Rattle.books.specs.Blocks.{dryAt}
-use Rattle.books.specs.Terms.{fixedOf}
+use Rattle.books.specs.Waters.{dryAt}
+use Rattle.books.specs.Own.{fixedOf}
 use Rattle.verdict.specs.Places.{freeAt, sizeOf}
 
 -- no well is dry: "22 if any well is dry"
 abbrev pub Wet : Grid → List ℤ → Type 0
 Wet g slots = (i : ℕ) → i < blocksOf g → dryAt g slots i ≡ false
 
--- Demand 2: "Heads are accepted exactly when fixed heads stand, no well in use is dry, and every block's balance is within tolerance in each
+-- The client's demand 2: "Heads are accepted exactly when fixed heads stand, no well in use is dry, and every block's balance is within tolerance in each
 -- fluid whose head it leaves free, by document 01."
 pub record Accepted (g : Grid) (slots : List ℤ) (β : ℕ → Fluids) : Type 0 where
   pub stands : (i fluid : ℕ) → i < blocksOf g → fluid < 2 → T (activeOf slots i) → T (fixedOf (blockOf slots i) fluid) → inFluid (newHeads (blockOf slots i)) fluid ≡ inFluid (oldHeads (blockOf slots i)) fluid

@@ -14,8 +14,8 @@ use Rattle.slots.specs.Slots.{blockOf}
 use Rattle.block.specs.declared.Fluids.{Fluids}
 use Rattle.block.specs.Fluids.{fresh, inFluid, newHeads, oldHeads}
 use Rattle.wellformed.specs.Links.{activeOf}
-use Rattle.books.specs.Blocks.{dryAt}
-use Rattle.books.specs.Terms.{fixedOf}
+use Rattle.books.specs.Waters.{dryAt}
+use Rattle.books.specs.Own.{fixedOf}
 
 -- two places to a block
 abbrev pub placesOf : Grid → ℕ
@@ -46,10 +46,10 @@ countedAt g slots β code fluid i =
     cond (eqb code 21) (movedAt slots fluid i)
     (cond (eqb code 22) (eqb fluid fresh && dryAt g slots i) (failsAt g slots β fluid i))
 
--- by place
+-- whether a place, by its number, counts for a code
 abbrev pub countedBy : Grid → List ℤ → (ℕ → Fluids) → ℕ → ℕ → Bool
 countedBy g slots β code p = countedAt g slots β code (p % 2) (p / 2)
 
--- the balance without sign at a free place, otherwise 0
+-- the balance without sign at a free place, litres a day, otherwise 0: of these "the largest balance without sign among free places" is taken
 unfoldable pub freeSizeOf : List ℤ → (ℕ → Fluids) → ℕ → ℤ
 freeSizeOf slots β p = only (freeAt slots (p % 2) (p / 2)) (sizeOf (inFluid (β (p / 2)) (p % 2)))

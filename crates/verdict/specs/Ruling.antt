@@ -2,13 +2,13 @@
 use mathlib.Core.Bool.{cond}
 use mathlib.Core.List.{List}
 use Prim.Native.Nat.{_%_, _+_, _/_, suc, zero, ℕ}
-use lib.Dec.{eqb, ltb}
+use lib.Dec.{ltb}
 use lib.IntN.{pos, ℤ}
 use Rattle.whole.specs.Search.{firstOf, mostOf}
 use Rattle.whole.specs.Sum.{count}
 use Rattle.grid.specs.declared.Grid.{Grid}
 use Rattle.slices.specs.declared.Refusal.{Refusal}
-use Rattle.slices.specs.Slices.{Case}
+use Rattle.slices.specs.Slices.{Case, unlessRefused}
 use Rattle.block.specs.declared.Fluids.{Fluids}
 use Rattle.wellformed.specs.Limits.{checkedOf}
 use Rattle.balance.specs.Balance.{balancesOf}
@@ -37,11 +37,11 @@ abbrev pub codeOf : ℕ → ℕ
 codeOf zero = 0
 codeOf (suc p) = 23 + p % 2
 
--- "A verdict has the code, the first block concerned (0 if accepted), how many places fail .., and the largest balance without sign"
+-- the verdict 21 or 22: "A verdict has the code, the first block concerned (0 if accepted), how many places fail .., and the largest balance without sign"
 unfoldable pub concerning : Grid → List ℤ → (ℕ → Fluids) → ℕ → Verdict
 concerning g slots β code = record { code = code; block = blockNumber (firstPlace g slots β code); count = countOf g slots β code; largest = pos 0 }
 
--- "23 or 24 by the first place ..; else 0, accepted"
+-- the verdict where no head moved and no well is dry: "23 or 24 by the first place ..; else 0, accepted"
 unfoldable pub byBalance : Grid → List ℤ → (ℕ → Fluids) → Verdict
 byBalance g slots β =
     record {
@@ -57,7 +57,7 @@ verdictBy g slots β =
     cond (ltb 0 (firstPlace g slots β 21)) (concerning g slots β 21)
     (cond (ltb 0 (firstPlace g slots β 22)) (concerning g slots β 22) (byBalance g slots β))
 
--- of a case
+-- the verdict on a case
 unfoldable pub verdictOf : Case → Verdict
 verdictOf c = verdictBy (c .grid) (c .slots) (balancesOf c)
 
@@ -69,8 +69,8 @@ noVerdict = record { code = 0; block = 0; count = 0; largest = pos 0 }
 
 -- a refusal, or the verdict beside none
 abbrev pub answered : Refusal → Verdict → Answer
-answered r v = record { refusal = r; verdict = cond (eqb (r .number) 0) v noVerdict }
+answered r v = record { refusal = r; verdict = unlessRefused r v noVerdict }
 
 -- "Slices are judged 3, 7, 4, 5, 6, 9, 10", and then by the verdict
-unfoldable pub answerOf : Case → Answer
-answerOf c = answered (checkedOf c) (verdictOf c)
+unfoldable pub verdictAnswer : Case → Answer
+verdictAnswer c = answered (checkedOf c) (verdictOf c)

@@ -10,7 +10,7 @@ ghost use Rattle.grid.specs.Place.{blocksOf};
 ghost use Rattle.slices.specs.Slices.{caseOf};
 ghost use Rattle.wellformed.specs.Limits.{WellFormed};
 ghost use Rattle.books.specs.Rows.{pairOf};
-ghost use Rattle.books.specs.Blocks.{Slotted, Watered};
+ghost use Rattle.books.specs.Waters.{Slotted, Watered};
 ghost use Rattle.balance.specs.Balance.{Bounded};
 ghost use Rattle.verdict.specs.Ruling.{
   firstPlace,
@@ -19,7 +19,7 @@ ghost use Rattle.verdict.specs.Ruling.{
   byBalance,
   verdictBy,
   verdictOf,
-  answerOf,
+  verdictAnswer,
 };
 use balance::balances::fill_balances;
 use books::rows::ROW;
@@ -142,7 +142,7 @@ pub fn verdict_of_case(g: Grid, columns: &[i64], rows: &[i64], slots: &[i64]) ->
 // The verdict on the heads proposed in a case in slices, or what the case is refused with, 3, 7, 4, 5, 6, 9 or 10, and the block that the
 // refusal names. `columns` and `rows` are the widths in metres. Any numbers, and slices of any length, are answered.
 pub fn verdict_of_slices(g: Grid, columns: &[i64], rows: &[i64], slots: &[i64]) -> Answer
-    ensures { λ r. ⌜ r ≡ answerOf (caseOf g (now (columns .entry)) (now (rows .entry)) (now (slots .entry))) ⌝ }
+    ensures { λ r. ⌜ r ≡ verdictAnswer (caseOf g (now (columns .entry)) (now (rows .entry)) (now (slots .entry))) ⌝ }
 {
     let refusal = check_slices(g, columns, rows, slots);
     if refusal.number != 0 {

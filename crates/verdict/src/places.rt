@@ -5,7 +5,7 @@ ghost use Prim.Native.Nat.{_<_};
 ghost use Rattle.whole.specs.Whole.{Abs};
 ghost use Rattle.grid.specs.Place.{blocksOf};
 ghost use Rattle.books.specs.Rows.{pairOf};
-ghost use Rattle.books.specs.Blocks.{Slotted, Sound, Watered};
+ghost use Rattle.books.specs.Waters.{Slotted, Sound, Watered};
 ghost use Rattle.balance.specs.Balance.{mostBalance, Bounded};
 ghost use Rattle.verdict.specs.Places.{sizeOf, movedAt, freeAt, failsAt, countedAt, freeSizeOf, placesOf};
 use super::units::DRY;

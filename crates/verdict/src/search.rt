@@ -2,7 +2,7 @@
 ghost use mathlib.Core.Path.{_≡_};
 ghost use Rattle.grid.specs.Place.{blocksOf};
 ghost use Rattle.books.specs.Rows.{pairOf};
-ghost use Rattle.books.specs.Blocks.{Slotted, Watered};
+ghost use Rattle.books.specs.Waters.{Slotted, Watered};
 ghost use Rattle.balance.specs.Balance.{Bounded};
 ghost use Rattle.verdict.specs.Ruling.{firstPlace, countOf, largestOf};
 use super::places::counted_at;

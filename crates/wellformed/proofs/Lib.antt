@@ -4,3 +4,4 @@ pub mod WidthsLaws
 pub mod LimitsLaws
 pub mod RoomLaws
 pub mod WorkedTheorems
+pub mod OutcomeTheorems

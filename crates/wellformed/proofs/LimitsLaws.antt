@@ -1,7 +1,7 @@
 -- What a case that is not refused gives: the law that it is well formed, and what follows for a face's flow. Assumes nothing.
-use mathlib.Core.Bool.{Bool, _&&_, _||_, false, true, true≢false}
+use mathlib.Core.Bool.{_||_, false}
 use mathlib.Core.List.{_++_}
-use mathlib.Core.Path.{_≡_, refl}
+use mathlib.Core.Path.{_≡_}
 use Prim.Native.Nat.{_+_, _<_, _≤_, suc, zero, ℕ}
 use native.Mathlib.Omega.{arith}
 use lib.Dec.{T}
@@ -9,10 +9,9 @@ use lib.IntN.{pos, ℤ}
 use lib.Signed.{_≤ℤ_, ltZ}
 use Rattle.whole.proofs.OrderLaws.{≤ℤ-trans}
 use Rattle.whole.proofs.RangeLaws.{lt-false}
-use Rattle.whole.proofs.SearchLaws.{first-none}
+use Rattle.whole.proofs.SearchLaws.{first-none, not-left, not-right, not-second}
 use Rattle.grid.specs.Place.{blocksOf, strideOf}
 use Rattle.grid.specs.Units.{nextRow}
-use Rattle.grid.proofs.PlaceLaws.{next-inside}
 use Rattle.slices.specs.Slices.{Case, Judged, contentsOf, firstRefusal, judgedOf, shapeOf}
 use Rattle.slices.proofs.SlicesLaws.{blames-none, first-append, here, judged-stands, later, or-none}
 use Rattle.block.specs.Fluids.{fresh, salt}
@@ -22,22 +21,21 @@ use Rattle.flow.specs.declared.lateral.Side.{Side}
 use Rattle.flow.specs.Lateral.{BehindIn, SideIn, faceConductanceOf}
 use Rattle.flow.specs.Litres.{mostConductance, overAreaOf}
 use Rattle.flow.proofs.LateralLaws.{through-most}
-use Rattle.wellformed.specs.Limits.{Conducts, WellFormed, aboveExceeds, atFault, blockExceeds, boundaryExceeds, checkedOf, eitherExceeds, exceeds, faceExceeds, firstAtFault, greatestOf, highOf, limitsOf, lowOf, overlaps}
+use Rattle.wellformed.specs.Limits.{Conducts, WellFormed, aboveExceeds, atFault, blockExceeds, boundaryExceeds, checkedOf, eitherExceeds, exceeds, faceExceeds, firstAtFault, greatestOf, acrossIn, limitsOf, blockIn, overlaps}
 use Rattle.wellformed.specs.Links.{activeOf, liveOf}
 use Rattle.wellformed.specs.Widths.{areaOf, faceOf}
-use Rattle.wellformed.proofs.LinksLaws.{live-high, live-low, live-next}
+use Rattle.wellformed.proofs.LinksLaws.{live-high, live-low, live-next, live-inside}
 use Rattle.wellformed.proofs.WidthsLaws.{face-in}
 
 -- ---- two active blocks and their face
 
-pub conducts : (c : Case) → Judged c → (d i : ℕ) → d ≤ 1 → i < blocksOf (c .grid) → T (liveOf (c .grid) (c .slots) d i) → Conducts (c .grid) (faceOf c d i) (lowOf c i) (highOf c d i)
+pub conducts : (c : Case) → Judged c → (d i : ℕ) → d ≤ 1 → i < blocksOf (c .grid) → T (liveOf (c .grid) (c .slots) d i) → Conducts (c .grid) (faceOf c d i) (blockIn c i) (acrossIn c d i)
 conducts c judged d i h l t =
-    let next = live-next (c .grid) (c .slots) d i t in
     let low = judged .active i l (live-low (c .grid) (c .slots) d i t) in
-    let high = judged .active (i + strideOf (c .grid) d) (next-inside (c .grid) (judged .counted) d i l next) (live-high (c .grid) (c .slots) d i t) in
+    let high = judged .active (i + strideOf (c .grid) d) (live-inside (c .grid) (c .slots) d i t (judged .counted) l) (live-high (c .grid) (c .slots) d i t) in
     record {
       termed = judged .termed;
-      face = face-in c judged i l d h next;
+      face = face-in c judged i l d h (live-next (c .grid) (c .slots) d i t);
       low = low .ends;
       high = high .ends;
       low-some = low .k-some;
@@ -45,20 +43,6 @@ conducts c judged d i h l t =
     }
 
 -- ---- tests that did not find a fault
-
--- none of several
-not-left : (a b : Bool) → (a || b) ≡ false → a ≡ false
-not-left true b e = absurd (true≢false e)
-not-left false b e = refl
-
-not-right : (a b : Bool) → (a || b) ≡ false → b ≡ false
-not-right true b e = absurd (true≢false e)
-not-right false b e = e
-
--- the second of two, where the first holds
-not-second : (a b : Bool) → (a && b) ≡ false → T a → b ≡ false
-not-second true b e t = e
-not-second false b e t = absurd t
 
 module _ (c : Case) (e : firstRefusal (limitsOf c) .number ≡ 0) (i : ℕ) (l : i < blocksOf (c .grid)) where
   no-fault : (number : ℕ) → firstAtFault c number ≡ 0 → atFault c number i ≡ false
@@ -86,16 +70,16 @@ module _ (c : Case) (e : firstRefusal (limitsOf c) .number ≡ 0) (i : ℕ) (l :
   rest : T (activeOf (c .slots) i) → aboveExceeds c i || boundaryExceeds c i ≡ false
   rest a = not-right (faceExceeds c 1 i) (aboveExceeds c i || boundaryExceeds c i) (not-right (faceExceeds c 0 i) (faceExceeds c 1 i || (aboveExceeds c i || boundaryExceeds c i)) (parts a))
 
-  within-stacked : T (liveOf (c .grid) (c .slots) 2 i) → aquiferTopOf (lowOf c i) ≤ℤ highOf c 2 i .base
+  within-stacked : T (liveOf (c .grid) (c .slots) 2 i) → aquiferTopOf (blockIn c i) ≤ℤ acrossIn c 2 i .base
   unfolding overlaps
-  within-stacked t = lt-false (highOf c 2 i .base) (aquiferTopOf (lowOf c i)) (not-second (liveOf (c .grid) (c .slots) 2 i) (ltZ (highOf c 2 i .base) (aquiferTopOf (lowOf c i))) not-9 t)
+  within-stacked t = lt-false (acrossIn c 2 i .base) (aquiferTopOf (blockIn c i)) (not-second (liveOf (c .grid) (c .slots) 2 i) (ltZ (acrossIn c 2 i .base) (aquiferTopOf (blockIn c i))) not-9 t)
 
-  within-lateral : (d fluid : ℕ) → d ≤ 1 → T (liveOf (c .grid) (c .slots) d i) → greatestOf (c .grid) (faceOf c d i) (lowOf c i) (highOf c d i) fluid ≤ℤ pos mostConductance
+  within-lateral : (d fluid : ℕ) → d ≤ 1 → T (liveOf (c .grid) (c .slots) d i) → greatestOf (c .grid) (faceOf c d i) (blockIn c i) (acrossIn c d i) fluid ≤ℤ pos mostConductance
   unfolding faceExceeds eitherExceeds greatestOf
   within-lateral d fluid h t = go fluid
     where
       of-fluid : ℕ → ℤ
-      of-fluid fluid = greatestOf (c .grid) (faceOf c d i) (lowOf c i) (highOf c d i) fluid
+      of-fluid fluid = greatestOf (c .grid) (faceOf c d i) (blockIn c i) (acrossIn c d i) fluid
 
       neither : exceeds (of-fluid fresh) || exceeds (of-fluid salt) ≡ false
       neither = not-second (liveOf (c .grid) (c .slots) d i) (exceeds (of-fluid fresh) || exceeds (of-fluid salt)) (face-not d h (live-low (c .grid) (c .slots) d i t)) t
@@ -104,15 +88,15 @@ module _ (c : Case) (e : firstRefusal (limitsOf c) .number ≡ 0) (i : ℕ) (l :
       go zero = lt-false (pos mostConductance) (of-fluid fresh) (not-left (exceeds (of-fluid fresh)) (exceeds (of-fluid salt)) neither)
       go (suc n) = lt-false (pos mostConductance) (of-fluid salt) (not-right (exceeds (of-fluid fresh)) (exceeds (of-fluid salt)) neither)
 
-  within-above : T (liveOf (c .grid) (c .slots) 2 i) → overAreaOf (lowOf c i .leakance) (areaOf c i) ≤ℤ pos mostConductance
+  within-above : T (liveOf (c .grid) (c .slots) 2 i) → overAreaOf (blockIn c i .leakance) (areaOf c i) ≤ℤ pos mostConductance
   unfolding aboveExceeds
   within-above t =
-      let z = overAreaOf (lowOf c i .leakance) (areaOf c i) in
+      let z = overAreaOf (blockIn c i .leakance) (areaOf c i) in
       lt-false (pos mostConductance) z (not-second (liveOf (c .grid) (c .slots) 2 i) (exceeds z) (not-left (aboveExceeds c i) (boundaryExceeds c i) (rest (live-low (c .grid) (c .slots) 2 i t))) t)
 
-  within-boundary : T (activeOf (c .slots) i) → overAreaOf (lowOf c i .«boundary_leakance») (areaOf c i) ≤ℤ pos mostConductance
+  within-boundary : T (activeOf (c .slots) i) → overAreaOf (blockIn c i .«boundary_leakance») (areaOf c i) ≤ℤ pos mostConductance
   unfolding boundaryExceeds
-  within-boundary a = lt-false (pos mostConductance) (overAreaOf (lowOf c i .«boundary_leakance») (areaOf c i)) (not-right (aboveExceeds c i) (boundaryExceeds c i) (rest a))
+  within-boundary a = lt-false (pos mostConductance) (overAreaOf (blockIn c i .«boundary_leakance») (areaOf c i)) (not-right (aboveExceeds c i) (boundaryExceeds c i) (rest a))
 
 -- The law that a case which is not refused is well formed.
 pub checked-stands : (c : Case) → checkedOf c .number ≡ 0 → WellFormed c
@@ -130,11 +114,11 @@ checked-stands c e =
 pub face-passes :
     (c : Case) → WellFormed c → (d i fluid : ℕ) → d ≤ nextRow → i < blocksOf (c .grid) → T (liveOf (c .grid) (c .slots) d i)
     → (a b : Side) (p : Behind) → SideIn a → SideIn b → BehindIn p
-    → a .k ≡ kOf (c .grid) (lowOf c i) fluid → b .k ≡ kOf (c .grid) (highOf c d i) fluid
-    → a .thickness ≤ℤ lowOf c i .thickness → b .thickness ≤ℤ highOf c d i .thickness
+    → a .k ≡ kOf (c .grid) (blockIn c i) fluid → b .k ≡ kOf (c .grid) (acrossIn c d i) fluid
+    → a .thickness ≤ℤ blockIn c i .thickness → b .thickness ≤ℤ acrossIn c d i .thickness
     → faceConductanceOf (faceOf c d i) a b p ≤ℤ pos mostConductance
 unfolding greatestOf
 face-passes c formed d i fluid h l t a b p k m q x y low high =
     ≤ℤ-trans
-    (through-most (faceOf c d i) a b p (face-in c (formed .judged) i l d h (live-next (c .grid) (c .slots) d i t)) k m q (lowOf c i .thickness) (highOf c d i .thickness) low high)
+    (through-most (faceOf c d i) a b p (face-in c (formed .judged) i l d h (live-next (c .grid) (c .slots) d i t)) k m q (blockIn c i .thickness) (acrossIn c d i .thickness) low high)
     (rw (x, y) (formed .lateral d i fluid h l t))

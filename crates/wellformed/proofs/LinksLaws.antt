@@ -1,4 +1,4 @@
--- What a live link tells. Assumes nothing.
+-- What a live link tells, and when a link is live. Assumes nothing.
 use mathlib.Core.Bool.{_&&_, false}
 use mathlib.Core.List.{List}
 use mathlib.Core.Path.{_≡_}
@@ -6,10 +6,10 @@ use Prim.Native.Nat.{_*_, _+_, _<_, _≤_, ℕ}
 use native.Mathlib.Omega.{arith}
 use lib.Dec.{T}
 use lib.IntN.{ℤ}
-use Rattle.whole.proofs.RangeLaws.{high, low}
 use Rattle.whole.proofs.SearchLaws.{both, joint}
 use Rattle.grid.specs.declared.Grid.{Grid}
-use Rattle.grid.specs.Place.{nextOf, strideOf}
+use Rattle.grid.specs.Place.{nextOf, strideOf, Counted, blocksOf}
+use Rattle.grid.proofs.PlaceLaws.{next-inside}
 use Rattle.wellformed.specs.Links.{activeOf, liveOf}
 
 module _ (g : Grid) (slots : List ℤ) (d i : ℕ) (t : T (liveOf g slots d i)) where
@@ -26,6 +26,10 @@ module _ (g : Grid) (slots : List ℤ) (d i : ℕ) (t : T (liveOf g slots d i)) 
 
   pub live-high : T (activeOf slots (i + strideOf g d))
   live-high = ends-active .1
+
+  -- the block across is inside the grid
+  pub live-inside : Counted g → i < blocksOf g → i + strideOf g d < blocksOf g
+  live-inside counted l = next-inside g counted d i l live-next
 
 -- a link between active neighbours is live
 pub joined-live : (g : Grid) (slots : List ℤ) (d i : ℕ) → T (nextOf g d i) → T (activeOf slots i) → T (activeOf slots (i + strideOf g d)) → T (liveOf g slots d i)

@@ -4,14 +4,14 @@ use mathlib.Core.List.{List, [], _++_, _∷_}
 use mathlib.Core.Path.{_∙_, _≡_, ap, ap₂, refl, subst, sym}
 use Prim.Native.Nat.{_*_, _+_, _<_, _≤_, suc, zero, ℕ}
 use native.Mathlib.Omega.{arith}
-use lib.Dec.{T, eqb, leb, le→leb, ltb→lt}
+use lib.Dec.{T, eqb, ltb→lt}
 use lib.IntN.{_*ℤ_, pos, ℤ}
-use lib.ListN.{getD, length}
+use lib.ListN.{getD}
 use lib.Seq.{getD-drop}
 use lib.Signed.{ltZ}
 use Rattle.whole.specs.declared.ranges.Range.{Range}
 use Rattle.whole.specs.Ranges.{allWithin, between, inRange}
-use Rattle.whole.proofs.SearchLaws.{every-same, first-same, holds, joint, true-is}
+use Rattle.whole.proofs.SearchLaws.{every-same, first-same, holds}
 use Rattle.grid.specs.declared.Grid.{Grid}
 use Rattle.grid.specs.Judging.{countsHold, termsHold}
 use Rattle.grid.specs.Place.{Counted, blocksOf, hasNext, nextOf, placeOf, strideOf, topOf}
@@ -22,11 +22,11 @@ use Rattle.slots.specs.Rules.{slotsHold}
 use Rattle.slots.specs.Slots.{blockOf, isActive, partOf}
 use Rattle.slots.specs.Units.{slotsEach}
 use Rattle.slots.proofs.SlotsLaws.{SameTo, slots-hold-same, slots-same}
-use Rattle.slices.specs.Slices.{Case, Roomy, blaming, caseOf, contentsOf, faultOf, firstRefusal, mostWidth, refusal, roomHolds, shapeOf, unless, widthsHold}
-use Rattle.slices.proofs.SlicesLaws.{or-first}
+use Rattle.slices.specs.Slices.{Case, Roomy, blaming, caseOf, contentsOf, faultOf, firstRefusal, mostWidth, refusal, shapeOf, unless, widthsHold}
+use Rattle.slices.proofs.SlicesLaws.{or-first, roomy-room}
 use Rattle.block.specs.Geometry.{aquiferTopOf}
 use Rattle.flow.specs.Litres.{overAreaOf}
-use Rattle.wellformed.specs.Limits.{aboveExceeds, atFault, blockExceeds, boundaryExceeds, checkedOf, eitherExceeds, exceeds, faceExceeds, firstAtFault, highOf, limitsOf, lowOf, overlaps}
+use Rattle.wellformed.specs.Limits.{aboveExceeds, atFault, blockExceeds, boundaryExceeds, checkedOf, eitherExceeds, exceeds, faceExceeds, firstAtFault, acrossIn, limitsOf, blockIn, overlaps}
 use Rattle.wellformed.specs.Links.{activeOf, liveOf}
 use Rattle.wellformed.specs.Widths.{areaAt, areaOf, faceOf, widthAt}
 use Rattle.wellformed.proofs.LinksLaws.{live-next}
@@ -61,18 +61,9 @@ block-same n i s t h l = slots-same (partOf s i) (partOf t i) (part-same n i s t
 -- two cases alike in their record and in the numbers that it needs: columns, rows and slots may differ beyond them
 pub record Alike (c d : Case) : Type 0 where
   pub grid : c .grid ≡ d .grid
-  pub columns : (k : ℕ) → k < c .grid .columns → getD (c .columns) k (pos 0) ≡ getD (d .columns) k (pos 0)
-  pub rows : (k : ℕ) → k < c .grid .rows → getD (c .rows) k (pos 0) ≡ getD (d .rows) k (pos 0)
-  pub slots : (k : ℕ) → k < slotsEach * blocksOf (c .grid) → getD (c .slots) k (pos 0) ≡ getD (d .slots) k (pos 0)
-
--- slices that are long enough pass 7
-roomy-room : (c : Case) → Roomy c → roomHolds c ≡ true
-unfolding roomHolds
-roomy-room c h =
-    let columns = leb (c .grid .columns) (length (c .columns)) in
-    let rows = leb (c .grid .rows) (length (c .rows)) in
-    let slots = leb (slotsEach * blocksOf (c .grid)) (length (c .slots)) in
-    true-is (joint columns (rows && slots) (le→leb _ _ (h .columns)) (joint rows slots (le→leb _ _ (h .rows)) (le→leb _ _ (h .slots))))
+  pub columns : SameTo (c .grid .columns) (c .columns) (d .columns)
+  pub rows : SameTo (c .grid .rows) (c .rows) (d .rows)
+  pub slots : SameTo (slotsEach * blocksOf (c .grid)) (c .slots) (d .slots)
 
 module _ (g : Grid) (c₁ r₁ s₁ c₂ r₂ s₂ : List ℤ) (alike : Alike (caseOf g c₁ r₁ s₁) (caseOf g c₂ r₂ s₂)) where
   -- the two cases, of one record
@@ -99,10 +90,10 @@ module _ (g : Grid) (c₁ r₁ s₁ c₂ r₂ s₂ : List ℤ) (alike : Alike (c
   -- 9 and 10 ask for a block, the blocks across its links, and the widths at its place
   module _ (counted : Counted g) (i : ℕ) (l : i < blocksOf g) where
     -- the block, and the one across a link
-    low-same : lowOf one i ≡ lowOf two i
+    low-same : blockIn one i ≡ blockIn two i
     low-same = block-same (blocksOf g) i s₁ s₂ (alike .slots) l
 
-    high-same : (d : ℕ) → T (nextOf g d i) → highOf one d i ≡ highOf two d i
+    high-same : (d : ℕ) → T (nextOf g d i) → acrossIn one d i ≡ acrossIn two d i
     high-same d t = block-same (blocksOf g) (i + strideOf g d) s₁ s₂ (alike .slots) (next-inside g counted d i l t)
 
     -- the widths at its place, its area and its faces

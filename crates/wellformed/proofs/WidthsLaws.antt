@@ -6,7 +6,7 @@ use native.Mathlib.Omega.{arith}
 use lib.Dec.{T, ltb→lt}
 use lib.IntN.{pos, ℤ}
 use Rattle.whole.specs.Whole.{In}
-use Rattle.whole.proofs.RangeLaws.{high, leaf, low, ranges, within}
+use Rattle.whole.proofs.RangeLaws.{leaf, ranges, within}
 use Rattle.grid.specs.declared.place.Place.{Place}
 use Rattle.grid.specs.Place.{Inside, blocksOf, coordinateOf, hasNext, nextOf, placeOf, strideOf}
 use Rattle.grid.proofs.PlaceLaws.{link-beside, next-inside, place-inside}

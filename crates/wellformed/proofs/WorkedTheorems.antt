@@ -1,4 +1,4 @@
--- The case of document 01's printed session is refused with none of the seven: what `WellFormed` asks can be met. Assumes nothing.
+-- The case of document 01's printed session is refused with none of 3, 7, 4, 5, 6, 9 and 10: what `WellFormed` asks can be met. Assumes nothing.
 use mathlib.Core.List.{_++_}
 use mathlib.Core.Path.{_∙_, _≡_, ap, refl}
 use Rattle.whole.specs.Ranges.{inRange}

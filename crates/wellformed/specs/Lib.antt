@@ -1,3 +1,4 @@
+-- The definitions of `wellformed`, for the crates above.
 pub mod Widths
 pub mod Links
 pub mod Limits

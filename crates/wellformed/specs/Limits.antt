@@ -24,17 +24,17 @@ use Rattle.wellformed.specs.Links.{activeOf, liveOf}
 use Rattle.wellformed.specs.Widths.{areaOf, faceOf}
 
 -- a block of a case, and the one across the link (d, i)
-abbrev pub lowOf : Case → ℕ → Block
-lowOf c i = blockOf (c .slots) i
+abbrev pub blockIn : Case → ℕ → Block
+blockIn c i = blockOf (c .slots) i
 
-abbrev pub highOf : Case → ℕ → ℕ → Block
-highOf c d i = blockOf (c .slots) (i + strideOf (c .grid) d)
+abbrev pub acrossIn : Case → ℕ → ℕ → Block
+acrossIn c d i = blockOf (c .slots) (i + strideOf (c .grid) d)
 
 -- 9: "an active block's top lies above the base of the block directly above it, both active"
 unfoldable pub overlaps : Case → ℕ → Bool
-overlaps c i = liveOf (c .grid) (c .slots) above i && ltZ (highOf c above i .base) (aquiferTopOf (lowOf c i))
+overlaps c i = liveOf (c .grid) (c .slots) above i && ltZ (acrossIn c above i .base) (aquiferTopOf (blockIn c i))
 
--- 10: "a conductance of either fluid exceeds 268,435,456"
+-- 10: "a conductance of either fluid exceeds 268,435,456", litres a day for each metre of head difference
 abbrev pub exceeds : ℤ → Bool
 exceeds conductance = ltZ (pos mostConductance) conductance
 
@@ -48,15 +48,15 @@ eitherExceeds g f a b = exceeds (greatestOf g f a b fresh) || exceeds (greatestO
 
 -- "10 counts faces between active blocks to the next column, next row"
 unfoldable pub faceExceeds : Case → ℕ → ℕ → Bool
-faceExceeds c d i = liveOf (c .grid) (c .slots) d i && eitherExceeds (c .grid) (faceOf c d i) (lowOf c i) (highOf c d i)
+faceExceeds c d i = liveOf (c .grid) (c .slots) d i && eitherExceeds (c .grid) (faceOf c d i) (blockIn c i) (acrossIn c d i)
 
 -- "and above"
 unfoldable pub aboveExceeds : Case → ℕ → Bool
-aboveExceeds c i = liveOf (c .grid) (c .slots) above i && exceeds (overAreaOf (lowOf c i .leakance) (areaOf c i))
+aboveExceeds c i = liveOf (c .grid) (c .slots) above i && exceeds (overAreaOf (blockIn c i .leakance) (areaOf c i))
 
 -- "and the boundary"; a block without a river or a sea has leakance 0 there
 unfoldable pub boundaryExceeds : Case → ℕ → Bool
-boundaryExceeds c i = exceeds (overAreaOf (lowOf c i .«boundary_leakance») (areaOf c i))
+boundaryExceeds c i = exceeds (overAreaOf (blockIn c i .«boundary_leakance») (areaOf c i))
 
 -- "10 counts faces between active blocks to the next column, next row and above, and the boundary"
 unfoldable pub blockExceeds : Case → ℕ → Bool
@@ -77,6 +77,7 @@ limitsOf c = blaming 9 (firstAtFault c 9) ∷ blaming 10 (firstAtFault c 10) ∷
 abbrev pub checksOf : Case → List Refusal
 checksOf c = (shapeOf c ++ contentsOf c) ++ limitsOf c
 
+-- the first of these that refuses the case
 abbrev pub checkedOf : Case → Refusal
 checkedOf c = firstRefusal (checksOf c)
 
@@ -92,10 +93,10 @@ pub record Conducts (g : Grid) (f : Face) (a b : Block) : Type 0 where
 
 -- ---- what later parts require of a case: what it is not refused for
 
--- by 3, 7, 4, 5 and 6; by 9; by 10 for a face in either fluid, for leakage and for the boundary
+-- it is not refused by 3, 7, 4, 5 and 6; by 9; by 10 for a face in either fluid, for leakage and for the boundary
 pub record WellFormed (c : Case) : Type 0 where
   pub judged : Judged c
-  pub stacked : (i : ℕ) → i < blocksOf (c .grid) → T (liveOf (c .grid) (c .slots) above i) → aquiferTopOf (lowOf c i) ≤ℤ highOf c above i .base
-  pub lateral : (d i fluid : ℕ) → d ≤ nextRow → i < blocksOf (c .grid) → T (liveOf (c .grid) (c .slots) d i) → greatestOf (c .grid) (faceOf c d i) (lowOf c i) (highOf c d i) fluid ≤ℤ pos mostConductance
-  pub leakage : (i : ℕ) → i < blocksOf (c .grid) → T (liveOf (c .grid) (c .slots) above i) → overAreaOf (lowOf c i .leakance) (areaOf c i) ≤ℤ pos mostConductance
-  pub boundary : (i : ℕ) → i < blocksOf (c .grid) → T (activeOf (c .slots) i) → overAreaOf (lowOf c i .«boundary_leakance») (areaOf c i) ≤ℤ pos mostConductance
+  pub stacked : (i : ℕ) → i < blocksOf (c .grid) → T (liveOf (c .grid) (c .slots) above i) → aquiferTopOf (blockIn c i) ≤ℤ acrossIn c above i .base
+  pub lateral : (d i fluid : ℕ) → d ≤ nextRow → i < blocksOf (c .grid) → T (liveOf (c .grid) (c .slots) d i) → greatestOf (c .grid) (faceOf c d i) (blockIn c i) (acrossIn c d i) fluid ≤ℤ pos mostConductance
+  pub leakage : (i : ℕ) → i < blocksOf (c .grid) → T (liveOf (c .grid) (c .slots) above i) → overAreaOf (blockIn c i .leakance) (areaOf c i) ≤ℤ pos mostConductance
+  pub boundary : (i : ℕ) → i < blocksOf (c .grid) → T (activeOf (c .slots) i) → overAreaOf (blockIn c i .«boundary_leakance») (areaOf c i) ≤ℤ pos mostConductance

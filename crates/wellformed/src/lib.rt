@@ -10,7 +10,7 @@ ghost use Rattle.wellformed.specs.Limits.{limitsOf, checkedOf};
 use grid::Grid;
 use limits::first_at_fault;
 use slices::Refusal;
-use slices::judge;
+use slices::judge_ranges;
 
 // 9, then 10. Inner: 3, 7, 4, 5 and 6 do not refuse the case.
 pub fn judge_limits(g: Grid, columns: &[i64], rows: &[i64], slots: &[i64]) -> Refusal
@@ -39,7 +39,7 @@ pub fn judge_limits(g: Grid, columns: &[i64], rows: &[i64], slots: &[i64]) -> Re
 pub fn check_slices(g: Grid, columns: &[i64], rows: &[i64], slots: &[i64]) -> Refusal
     ensures { λ r. ⌜ r ≡ checkedOf (caseOf g (now (columns .entry)) (now (rows .entry)) (now (slots .entry))) ⌝ }
 {
-    let first = judge(g, columns, rows, slots);
+    let first = judge_ranges(g, columns, rows, slots);
     if first.number != 0 {
         return first;
     }

@@ -47,7 +47,8 @@ use slots::is_active;
 use slots::load;
 use whole::greatest;
 
-// 10: "a conductance of either fluid exceeds 268,435,456". The definitions name it in `flow`, whose functions require it.
+// 10: "a conductance of either fluid exceeds 268,435,456", litres a day for each metre of head difference. The definitions name it in `flow`, whose
+// functions require it.
 const MOST_CONDUCTANCE: i64 = 268_435_456;
 
 // 9: "an active block's top lies above the base of the block directly above it, both active". Inner: 3, 7, 4, 5 and 6 do not refuse the

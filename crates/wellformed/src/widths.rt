@@ -19,7 +19,7 @@ pub fn along(columns: &[i64], rows: &[i64], place: Place, axis: usize) -> i64
     }
 }
 
-// The face between a block and the next one along an axis. Inner: both places have widths.
+// The face between a block and the next one along an axis, its widths in metres. Inner: both places have widths.
 pub fn face(columns: &[i64], rows: &[i64], place: Place, axis: usize) -> Face
     requires { ⌜ Placed (now columns) (now rows) place ⌝ }
     requires { ⌜ Onward (now columns) (now rows) place axis ⌝ }

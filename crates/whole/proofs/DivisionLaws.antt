@@ -10,7 +10,7 @@ use lib.IntN.{ℤ, pos, negsuc, negℤ, _+ℤ_, _-ℤ_, _*ℤ_, negℤ-negℤ}
 use lib.Signed.{_≤ℤ_, _<ℤ_}
 use Rattle.whole.specs.Whole.{floorOf, cutOf, minℤ, maxℤ}
 use Rattle.whole.proofs.LinearLaws.{linear, from1, from2, from4, signed, #}
-use Rattle.whole.proofs.OrderLaws.{≤ℤ-trans, ≤ℤ-antisymm, ≤ℤ-or-<, <ℤ-≤ℤ, mul-mono, mul-anti, mul-nonneg, negℤ-*ℤ, minℤ-l, minℤ-r, maxℤ-l, maxℤ-r}
+use Rattle.whole.proofs.OrderLaws.{≤ℤ-trans, ≤ℤ-antisymm, ≤ℤ-or-<, <ℤ-≤ℤ, mul-mono, mul-anti, mul-nonneg, negℤ-*ℤ, minℤ-l, minℤ-r, maxℤ-l, maxℤ-r, neg-le}
 
 one-le : (k : ℕ) → pos 1 ≤ℤ pos k → 0 < k
 one-le k = linear (search signed depth 30) (omega arith)
@@ -40,13 +40,6 @@ floor-unique z d q h l g = ≤ℤ-antisymm (quot-le d (floorOf z d) q z z h (flo
 
 pub floor-mono : (y z d : ℤ) → pos 1 ≤ℤ d → y ≤ℤ z → floorOf y d ≤ℤ floorOf z d
 floor-mono y z d h l = quot-le d (floorOf y d) (floorOf z d) y z h (floor-low y d h) l (floor-high z d h)
-
-pub floor-add : (z k d : ℤ) → pos 1 ≤ℤ d → floorOf (z +ℤ k *ℤ d) d ≡ floorOf z d +ℤ k
-floor-add z k d h =
-    let q = floorOf z d in
-    floor-unique (z +ℤ k *ℤ d) d (q +ℤ k) h
-    (from1 (floor-low z d h) (search (signed, # z, # k, # d, # q) depth 40) (omega arith))
-    (from1 (floor-high z d h) (search (signed, # z, # k, # d, # q) depth 40) (omega arith))
 
 pub floor-mul : (k d : ℤ) → pos 1 ≤ℤ d → floorOf (k *ℤ d) d ≡ k
 floor-mul k d h = floor-unique (k *ℤ d) d k h (linear (search (signed, # k, # d) depth 40) (omega arith)) (from1 h (search (signed, # k, # d) depth 40) (omega arith))
@@ -90,9 +83,6 @@ pub cut-nonneg : (z d : ℤ) → pos 0 ≤ℤ z → pos 1 ≤ℤ d → pos 0 ≤
 cut-nonneg z d g h = rw (cut-floor z d g h) (nonneg-floor z d g h)
 
 -- by the sign of a number: what holds where it is not negative, and of its negation where it is
-neg-le : (y z : ℤ) → y ≤ℤ z → negℤ z ≤ℤ negℤ y
-neg-le y z = linear (search (signed, # y, # z) depth 30) (omega arith)
-
 le-neg : (y z : ℤ) → negℤ y ≤ℤ negℤ z → z ≤ℤ y
 le-neg y z = linear (search (signed, # y, # z) depth 30) (omega arith)
 
@@ -150,17 +140,6 @@ floor-from l z e d p g k =
   where
     floor-zero : (e : ℤ) → pos 1 ≤ℤ e → floorOf (pos 0) e ≤ℤ pos 0
     floor-zero e h = from1 (floor-< (pos 0) e (pos 1) h (from1 h (search (signed, # e) depth 30) (omega arith))) (search (signed, # (floorOf (pos 0) e)) depth 30) (omega arith)
-
--- the quotient's bounds: between 0 and the number, and less than d away from it
-pub cut-down : (z d : ℤ) → pos 0 ≤ℤ z → pos 1 ≤ℤ d → ((d *ℤ cutOf z d) ≤ℤ z) × (z <ℤ (d *ℤ cutOf z d +ℤ d))
-cut-down z d g h = rw (cut-floor z d g h) (floor-low z d h, floor-high z d h)
-
-pub cut-up : (z d : ℤ) → z ≤ℤ pos 0 → pos 1 ≤ℤ d → (z ≤ℤ (d *ℤ cutOf z d)) × ((d *ℤ cutOf z d) <ℤ (z +ℤ d))
-cut-up z d g h =
-    let e : cutOf z d ≡ negℤ (cutOf (negℤ z) d) = rw (cut-neg z d) (sym (negℤ-negℤ (cutOf z d))) in
-    let b = cut-down (negℤ z) d (neg-pos z g) h in
-    let q = cutOf (negℤ z) d in
-    rw e (from1 (b .0) (search (signed, # z, # d, # q) depth 30) (omega arith), from1 (b .1) (search (signed, # z, # d, # q) depth 30) (omega arith))
 
 pub cut-mul : (k d : ℤ) → pos 1 ≤ℤ d → cutOf (k *ℤ d) d ≡ k
 cut-mul k d h =

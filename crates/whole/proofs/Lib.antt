@@ -8,4 +8,5 @@ pub mod RangeLaws
 pub mod SumLaws
 pub mod SearchLaws
 pub mod WithinLaws
-mod Examples
+pub mod LentLaws
+pub mod OutcomeTheorems

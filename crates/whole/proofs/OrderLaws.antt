@@ -4,12 +4,12 @@ use mathlib.Core.Path.{_≡_, ap}
 use mathlib.Core.Logic.{_⊎_, inl, inr, ⊎-elim}
 use Prim.Native.Nat.{ℕ, zero, suc, _+_, _≤_, _<_}
 use native.Mathlib.Omega.{arith}
-use mathlib.Core.Bool.{Bool, true, false, not, cond}
+use mathlib.Core.Bool.{not}
 use lib.Dec.{T, T-not, eqb→eq}
 use lib.IntN.{ℤ, pos, negsuc, negℤ, natAbs, _-ℤ_, _*ℤ_, *ℤ-comm}
 use lib.Signed.{_≤ℤ_, _<ℤ_, leZ, leZ-yes, ≤ℤ-refl}
 use Rattle.whole.specs.Whole.{isZero, minℤ, maxℤ, clampOf, Abs}
-use Rattle.whole.proofs.Parts.{plus, minus, le-out, le-in, lt-in}
+use Rattle.whole.proofs.Parts.{plus, minus, le-out, le-in, lt-in, cond-ind}
 use Rattle.whole.proofs.LinearLaws.{linear, from1, from2, signed, sizes, #}
 
 pub negℤ-*ℤ : (a b : ℤ) → negℤ a *ℤ b ≡ negℤ (a *ℤ b)
@@ -36,6 +36,9 @@ nat-total (suc m) (suc n) = ⊎-elim (λ p. inl (omega arith)) (λ p. inr (omega
 pub ≤ℤ-or-< : (a b : ℤ) → (a ≤ℤ b) ⊎ (b <ℤ a)
 ≤ℤ-or-< a b = ⊎-elim (λ p. inl (le-in p)) (λ p. inr (lt-in p)) (nat-total (plus a + minus b) (plus b + minus a))
 
+pub neg-le : (a b : ℤ) → a ≤ℤ b → negℤ b ≤ℤ negℤ a
+neg-le a b = linear (search (signed, # a, # b) depth 30) (omega arith)
+
 -- ---- the order and products. A product of two nonnegative numbers is not negative, and the rest follows
 pub mul-nonneg : (a b : ℤ) → pos 0 ≤ℤ a → pos 0 ≤ℤ b → pos 0 ≤ℤ (a *ℤ b)
 mul-nonneg (pos a) (pos b) h k = linear (search signed depth 30) (omega arith)
@@ -50,10 +53,6 @@ pub mul-anti : (k a b : ℤ) → k ≤ℤ pos 0 → a ≤ℤ b → (k *ℤ b) �
 mul-anti k a b h l = from1 (mul-nonneg (negℤ k) (b -ℤ a) (from1 h (search (signed, # k) depth 30) (omega arith)) (from1 l (search (signed, # a, # b) depth 30) (omega arith))) (search (signed, # a, # b, # k) depth 30) (omega arith)
 
 -- ---- the smaller and the larger of two
-cond-ind : (c : Bool) (x y : ℤ) (P : ℤ → Type 0) → (T c → P x) → (T (not c) → P y) → P (cond c x y)
-cond-ind true x y P f g = f tt
-cond-ind false x y P f g = g tt
-
 pub nle-lt : (a b : ℤ) → T (not (leZ a b)) → b <ℤ a
 nle-lt a b t = ⊎-elim (λ h. absurd (T-not (leZ a b) t (h .le))) (λ h. h) (≤ℤ-or-< a b)
 
@@ -92,9 +91,6 @@ pub maxℤ-right : {a b : ℤ} → a ≤ℤ b → maxℤ a b ≡ b
 maxℤ-right {a} {b} h = ≤ℤ-antisymm (maxℤ-≤ a b b h (≤ℤ-refl b)) (maxℤ-r a b)
 
 -- by cases, for `⊎-elim`
-pub minℤ-or : (a b : ℤ) → ((minℤ a b ≡ a) × (a ≤ℤ b)) ⊎ ((minℤ a b ≡ b) × (b ≤ℤ a))
-minℤ-or a b = ⊎-elim (λ h. inl (minℤ-left h, h)) (λ h. inr (minℤ-right (<ℤ-≤ℤ h), <ℤ-≤ℤ h)) (≤ℤ-or-< a b)
-
 pub maxℤ-or : (a b : ℤ) → ((maxℤ a b ≡ b) × (a ≤ℤ b)) ⊎ ((maxℤ a b ≡ a) × (b ≤ℤ a))
 maxℤ-or a b = ⊎-elim (λ h. inl (maxℤ-right h, h)) (λ h. inr (maxℤ-left (<ℤ-≤ℤ h), <ℤ-≤ℤ h)) (≤ℤ-or-< a b)
 
@@ -119,6 +115,9 @@ abs-in {m} {z} h = record { low = from1 h (search (sizes, # z) depth 30) (omega 
 
 pub in-abs : {m : ℕ} {z : ℤ} → Abs m z → natAbs z ≤ m
 in-abs {m} {z} h = from2 (h .low) (h .high) (search (sizes, # z) depth 30) (omega arith)
+
+pub abs-zero : (m : ℕ) → Abs m (pos 0)
+abs-zero m = abs-in {m = m} {z = pos 0} (omega arith)
 
 -- ---- a product's range, from its factors'
 module _ (k c d y : ℤ) (h : c ≤ℤ y) (l : y ≤ℤ d) where

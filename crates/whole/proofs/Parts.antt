@@ -1,6 +1,5 @@
 -- An integer as the difference of two naturals, its positive and its negative part, one of which is 0: every law here is a statement about ℕ,
--- which `omega` reads. `omega orders` reads the orders and equations of ℤ that it finds and proves such a goal; what it is to know of a sum, a
--- difference, a negation or a product goes into its list: `omega (orders, +# a c, -# b c)`.
+-- which `omega` reads. What it is to know of a difference or a product goes into its list: `omega (arith, -# a b, *# a b)`.
 -- Assumes nothing.
 use mathlib.Core.Path.{_≡_, refl, sym, ap, _∙_}
 use mathlib.Core.Bool.{Bool, true, false, not, cond}
@@ -37,7 +36,7 @@ is-neg (pos zero) p n h = omega arith
 is-neg (pos (suc k)) p n h = omega arith
 is-neg (negsuc k) p n h = omega arith
 
-cond-ind : (c : Bool) (x y : ℤ) (P : ℤ → Type 0) → (T c → P x) → (T (not c) → P y) → P (cond c x y)
+pub cond-ind : (c : Bool) (x y : ℤ) (P : ℤ → Type 0) → (T c → P x) → (T (not c) → P y) → P (cond c x y)
 cond-ind true x y P f g = f tt
 cond-ind false x y P f g = g tt
 
@@ -63,14 +62,15 @@ is-add a b p n q m h k = omega (arith, add-self a b)
 neg-pos : (k : ℕ) → Is (negℤ (pos k)) 0 k
 neg-pos k = is-neg (pos k) k 0 (is-pos k)
 
-mul-self : (a b : ℤ) → Is (a *ℤ b) (plus a * plus b + minus a * minus b) (plus a * minus b + minus a * plus b)
-mul-self (pos a) (pos b) = omega arith
-mul-self (pos a) (negsuc b) = omega (arith, neg-pos (a * suc b))
-mul-self (negsuc a) (pos b) = omega (arith, neg-pos (suc a * b))
-mul-self (negsuc a) (negsuc b) = omega arith
+-- also for `omega` itself
+pub *# : (a b : ℤ) → Is (a *ℤ b) (plus a * plus b + minus a * minus b) (plus a * minus b + minus a * plus b)
+*# (pos a) (pos b) = omega arith
+*# (pos a) (negsuc b) = omega (arith, neg-pos (a * suc b))
+*# (negsuc a) (pos b) = omega (arith, neg-pos (suc a * b))
+*# (negsuc a) (negsuc b) = omega arith
 
 pub is-mul : (a b : ℤ) (p n q m : ℕ) → Is a p n → Is b q m → Is (a *ℤ b) (p * q + n * m) (p * m + n * q)
-is-mul a b p n q m h k = omega (arith, mul-self a b, ap (λ t. t * plus b) h, ap (λ t. t * minus b) h, ap (λ t. p * t) k, ap (λ t. n * t) k)
+is-mul a b p n q m h k = omega (arith, *# a b, ap (λ t. t * plus b) h, ap (λ t. t * minus b) h, ap (λ t. p * t) k, ap (λ t. n * t) k)
 
 -- ---- the order and equality, in ℕ
 le-self : (a b : ℤ) → T (leZ a b) → plus a + minus b ≤ plus b + minus a
@@ -122,19 +122,11 @@ pub eq-in : {a b : ℤ} → plus a + minus b ≡ plus b + minus a → a ≡ b
 eq-in {a} {b} h = self-eq a b h
 
 -- ---- for `omega` itself
-pub +# : (a b : ℤ) → Is (a +ℤ b) (plus a + plus b) (minus a + minus b)
-+# a b = add-self a b
-
 pub neg# : (a : ℤ) → Is (negℤ a) (minus a) (plus a)
 neg# a = is-neg a (plus a) (minus a) (is-self a)
 
 pub -# : (a b : ℤ) → Is (a -ℤ b) (plus a + minus b) (minus a + plus b)
 -# a b = is-add a (negℤ b) (plus a) (minus a) (minus b) (plus b) (is-self a) (neg# b)
-
-pub *# : (a b : ℤ) → Is (a *ℤ b) (plus a * plus b + minus a * minus b) (plus a * minus b + minus a * plus b)
-*# a b = mul-self a b
-
-pub ruleset orders = (arith, le-out, lt-out, eq-out, le-in, lt-in, eq-in)
 
 -- ---- sizes without sign: one of the two parts is 0
 pub mag-lt : (z : ℤ) (k : ℕ) → plus z < minus z + k → minus z ≤ plus z + k → mag z < k

@@ -8,20 +8,19 @@
 -- Assumes nothing.
 use mathlib.Core.Path.{_≡_, refl, sym, ap, ap₂, _∙_, subst}
 use mathlib.Core.Bool.{Bool, true, false, not, cond, _&&_}
-use Prim.Native.Nat.{ℕ, suc, _-_, _^_, _≤_, _<_}
-use native.Mathlib.Nat.{mod-le, lt-of-le-of-lt}
+use Prim.Native.Nat.{ℕ, _-_, _^_, _<_}
 use native.Mathlib.Omega.{arith}
-use lib.Dec.{T, ltb, ltb→lt}
+use lib.Dec.{T}
 use lib.IntN.{ℤ, pos, negsuc, negℤ, _+ℤ_, _-ℤ_, _*ℤ_, natAbs, +ℤ-idl}
-use lib.Signed.{_≤ℤ_, _<ℤ_, leZ, ltZ, leZ-yes, ≤ℤ-refl, mag, remZ, ltZ-yes, ltZ-no, nonNeg, yes-nonNeg, pos-natAbs}
+use lib.Signed.{_≤ℤ_, _<ℤ_, leZ, ltZ, leZ-yes, ≤ℤ-refl, mag, ltZ-yes, ltZ-no, nonNeg, yes-nonNeg}
 use mir.Syntax.{w64}
 use mir.Val.{SFits, Fits, toZ, ofZ}
 use mir.Facts.{fits-natAbs}
-use mir.ValLaws.{toZ-ofZ, toZ-pos}
+use mir.ValLaws.{toZ-ofZ}
 use Rattle.whole.specs.Whole.{In, minℤ, maxℤ, floorOf, cutOf}
-use Rattle.whole.proofs.SearchLaws.{both}
+use Rattle.whole.proofs.SearchLaws.{both, holds}
 use Rattle.whole.proofs.LinearLaws.{linear, from1, from4, signed, #}
-use Rattle.whole.proofs.OrderLaws.{≤ℤ-trans, nle-lt, minℤ-l, minℤ-r, maxℤ-l, maxℤ-r, ≤-minℤ, maxℤ-≤, mulLow, mulHigh, mul-low, mul-high}
+use Rattle.whole.proofs.OrderLaws.{≤ℤ-trans, nle-lt, minℤ-l, minℤ-r, maxℤ-l, maxℤ-r, ≤-minℤ, maxℤ-≤, mulLow, mulHigh, mul-low, mul-high, neg-le}
 use Rattle.whole.proofs.DivisionLaws.{cut-low, cut-high, floor-from, floor-to}
 
 -- z is v, which is from l to h
@@ -71,18 +70,15 @@ abbrev pub b-is : {z y : ℤ} → z ≡ y → Bounds y → Bounds z
 b-is e b = bounds (val b) (lo b) (hi b) (is-by e b) (low b) (high b)
 
 -- ---- the number mirrored at 0
-neg-low : (a b : ℤ) → a ≤ℤ b → negℤ b ≤ℤ negℤ a
-neg-low a b = linear (search (signed, # a, # b) depth 30) (omega arith)
-
 module _ (x : ℤ) (a : Bounds x) where
   pub neg-e : negℤ x ≡ negℤ (val a)
   neg-e = ap negℤ (exact a)
 
   pub neg-l : negℤ (hi a) ≤ℤ negℤ (val a)
-  neg-l = neg-low (val a) (hi a) (high a)
+  neg-l = neg-le (val a) (hi a) (high a)
 
   pub neg-h : negℤ (val a) ≤ℤ negℤ (lo a)
-  neg-h = neg-low (lo a) (val a) (low a)
+  neg-h = neg-le (lo a) (val a) (low a)
 
   abbrev pub b-neg : Bounds (negℤ x)
   b-neg = bounds (negℤ (val a)) (negℤ (hi a)) (negℤ (lo a)) neg-e neg-l neg-h
@@ -192,7 +188,7 @@ negated {l} {h} {z} {v} e i s t =
     ap (λ x. toZ w64 (ofZ w64 (pos 0 -ℤ toZ w64 (ofZ w64 x)))) e
     ∙ ap (λ x. toZ w64 (ofZ w64 (pos 0 -ℤ x))) (read i s)
     ∙ ap (λ x. toZ w64 (ofZ w64 x)) (+ℤ-idl (negℤ v))
-    ∙ read (record { low = neg-low v h (i .high); high = neg-low l v (i .low) }) t
+    ∙ read (record { low = neg-le v h (i .high); high = neg-le l v (i .low) }) t
 
 -- any i64, and one that is at least l
 sfits-in : (z : ℤ) → SFits w64 z → (negsuc (2 ^ 63 - 1) ≤ℤ z) × (z ≤ℤ pos (2 ^ 63 - 1))
@@ -233,24 +229,6 @@ module _ (z : ℤ) (b : Bounds z) where
   abbrev pub b-machine : Bounds (toZ w64 (ofZ w64 z))
   b-machine = b-pick (toZ w64 (ofZ w64 z)) (toZ w64 (ofZ w64 z)) (val b) (lo b) (hi b) (ok (lo b) (hi b)) machine
 
--- an unsigned number of at most m, read as signed after `n as i64`, and in the need of that cast
-module _ (n m : ℕ) (h : n ≤ m) where
-  pub natural : Pick (toZ w64 n) (toZ w64 n) (pos n) (pos 0) (pos m) (ltb m (2 ^ 63))
-  natural = pick (toZ w64 n) (toZ w64 n) (pos n) (pos 0) (pos m) (ltb m (2 ^ 63)) refl
-      (λ t. (toZ-pos w64 n (lt-of-le-of-lt h (ltb→lt m (2 ^ 63) t)), linear (search signed depth 30) (omega arith), linear (search signed depth 30) (omega arith)))
-
-  abbrev pub b-natural : Bounds (toZ w64 n)
-  b-natural = b-pick (toZ w64 n) (toZ w64 n) (pos n) (pos 0) (pos m) (ltb m (2 ^ 63)) natural
-
-  pub natural-low : pos 0 ≤ℤ pos n
-  natural-low = linear (search signed depth 30) (omega arith)
-
-  pub natural-high : pos n ≤ℤ pos m
-  natural-high = linear (search signed depth 30) (omega arith)
-
-  abbrev pub b-cast : Bounds (pos n)
-  b-cast = bounds (pos n) (pos 0) (pos m) refl natural-low natural-high
-
 -- ---- quotients, where the divisor's range starts at 1 or above
 module _ (x y : ℤ) (a : Bounds x) (b : Bounds y) where
   abbrev pub cutLow : ℤ
@@ -279,32 +257,7 @@ module _ (x y : ℤ) (a : Bounds x) (b : Bounds y) where
   abbrev pub b-floor : Bounds (floorOf x y)
   b-floor = b-pick (floorOf x y) (floorOf x y) (floorOf (val a) (val b)) floorLow floorHigh (leZ (pos 1) (lo b)) floor
 
--- ---- a remainder, which lies between 0 and the dividend
-rem-low : (l z d : ℤ) → l ≤ℤ z → minℤ l (pos 0) ≤ℤ remZ z d
-rem-low l (pos a) d h = ≤ℤ-trans (minℤ-r l (pos 0)) (linear (search signed depth 30) (omega arith))
-rem-low l (negsuc a) d h = ≤ℤ-trans (minℤ-l l (pos 0)) (≤ℤ-trans h (from1 (mod-le (suc a) (natAbs d)) (search signed depth 30) (omega arith)))
-
-rem-high : (h z d : ℤ) → z ≤ℤ h → remZ z d ≤ℤ maxℤ h (pos 0)
-rem-high h (pos a) d l = ≤ℤ-trans (from1 (mod-le a (natAbs d)) (search signed depth 30) (omega arith)) (≤ℤ-trans l (maxℤ-l h (pos 0)))
-rem-high h (negsuc a) d l = ≤ℤ-trans (linear (search signed depth 30) (omega arith)) (maxℤ-r h (pos 0))
-
-module _ (x y : ℤ) (a : Bounds x) (b : Bounds y) where
-  pub rem-e : remZ x y ≡ remZ (val a) (val b)
-  rem-e = ap₂ remZ (exact a) (exact b)
-
-  pub rem-l : minℤ (lo a) (pos 0) ≤ℤ remZ (val a) (val b)
-  rem-l = rem-low (lo a) (val a) (val b) (low a)
-
-  pub rem-h : remZ (val a) (val b) ≤ℤ maxℤ (hi a) (pos 0)
-  rem-h = rem-high (hi a) (val a) (val b) (high a)
-
-  abbrev pub b-rem : Bounds (remZ x y)
-  b-rem = bounds (remZ (val a) (val b)) (minℤ (lo a) (pos 0)) (maxℤ (hi a) (pos 0)) rem-e rem-l rem-h
-
-pub ruleset ranges = (b-in, b-pos, b-negsuc, b-neg, b-add, b-sub, b-mul, b-cut, b-floor, b-rem, b-min, b-max, b-machine)
-
--- with unsigned numbers that an `n ≤ m` in reach bounds
-pub ruleset unsigned = (ranges, b-natural, b-cast)
+pub ruleset ranges = (b-in, b-pos, b-negsuc, b-neg, b-add, b-sub, b-mul, b-cut, b-floor, b-min, b-max, b-machine)
 
 -- ---- a divisor's bits are not 0
 bits-pos : (d : ℤ) → pos 1 ≤ℤ d → 0 < ofZ w64 d
@@ -316,13 +269,13 @@ nonzero {d} h = bits-pos d h
 
 -- ---- what a test tells of two terms, which are written out
 pub lt-true : (x y : ℤ) → ltZ x y ≡ true → x <ℤ y
-lt-true x y e = ltZ-yes (subst T (sym e) tt)
+lt-true x y e = ltZ-yes (holds e)
 
 pub lt-false : (x y : ℤ) → ltZ x y ≡ false → y ≤ℤ x
 lt-false x y e = ltZ-no (subst (λ t. T (not t)) (sym e) tt)
 
 pub le-true : (x y : ℤ) → leZ x y ≡ true → x ≤ℤ y
-le-true x y e = leZ-yes (subst T (sym e) tt)
+le-true x y e = leZ-yes (holds e)
 
 pub le-false : (x y : ℤ) → leZ x y ≡ false → y <ℤ x
 le-false x y e = nle-lt x y (subst (λ t. T (not t)) (sym e) tt)
@@ -355,16 +308,10 @@ positive i t e = sym (ap (ltZ (pos 0)) (read i t)) ∙ e
 pub positive-any : {z : ℤ} {b : Bool} → SFits w64 z → ltZ (pos 0) (toZ w64 (ofZ w64 z)) ≡ b → ltZ (pos 0) z ≡ b
 positive-any {z} f e = sym (lt-bits (fits (b-pos 0) tt) f) ∙ e
 
--- ---- a fact of a term's value is one of the term, and the other way round
-pub on : {z : ℤ} (F : ℤ → Type 0) (b : Bounds z) → F (val b) → F z
-on F b t = subst F (sym (exact b)) t
-
-pub off : {z : ℤ} (F : ℤ → Type 0) (b : Bounds z) → F z → F (val b)
-off F b t = subst F (exact b) t
+-- whether an i64 is below 0
+pub negative-any : {z : ℤ} {b : Bool} → SFits w64 z → ltZ (toZ w64 (ofZ w64 z)) (pos 0) ≡ b → ltZ z (pos 0) ≡ b
+negative-any f e = sym (lt-bits f (fits (b-pos 0) tt)) ∙ e
 
 -- ---- the cast of a number that is not negative to an unsigned one
 pub unsign-ok : {a : ℤ} → pos 0 ≤ℤ a → SFits w64 a → T (nonNeg (toZ w64 (ofZ w64 a))) × Fits w64 (natAbs (toZ w64 (ofZ w64 a)))
 unsign-ok {a} h f = rw (toZ-ofZ w64 a f) (yes-nonNeg h, fits-natAbs tt f)
-
-pub unsign-is : {a : ℤ} → pos 0 ≤ℤ a → SFits w64 a → pos (natAbs (toZ w64 (ofZ w64 a))) ≡ a
-unsign-is {a} h f = rw (toZ-ofZ w64 a f) (pos-natAbs a (yes-nonNeg h))

@@ -75,22 +75,19 @@ add-is (horner p q) (horner r s) ρ = rw (add-is p r (rest ρ), add-is q s ρ) (
     regroup : (p r v q s : ℤ) → p +ℤ r +ℤ v *ℤ (q +ℤ s) ≡ p +ℤ v *ℤ q +ℤ (r +ℤ v *ℤ s)
     regroup p r v q s = linear (search (signed, # p, # r, # v, # q, # s) depth 30) (omega arith)
 
+scaled : (a p v q : ℤ) → a *ℤ p +ℤ v *ℤ (a *ℤ q) ≡ a *ℤ (p +ℤ v *ℤ q)
+scaled a p v q = linear (search (signed, # a, # p, # v, # q) depth 30) (omega arith)
+
 mulK-is : (a : ℤ) (p : Polynomial) (ρ : List ℤ) → eval (mulK a p) ρ ≡ a *ℤ eval p ρ
 mulK-is a (constant b) ρ = refl
-mulK-is a (horner p q) ρ = rw (mulK-is a p (rest ρ), mulK-is a q ρ) (regroup a (eval p (rest ρ)) (first ρ) (eval q ρ))
-  where
-    regroup : (a p v q : ℤ) → a *ℤ p +ℤ v *ℤ (a *ℤ q) ≡ a *ℤ (p +ℤ v *ℤ q)
-    regroup a p v q = linear (search (signed, # a, # p, # v, # q) depth 30) (omega arith)
+mulK-is a (horner p q) ρ = rw (mulK-is a p (rest ρ), mulK-is a q ρ) (scaled a (eval p (rest ρ)) (first ρ) (eval q ρ))
 
 each-is : (f : Polynomial → Polynomial) (z : ℤ) (t : Polynomial) (ρ : List ℤ) → ((u : Polynomial) → eval (f u) (rest ρ) ≡ z *ℤ eval u (rest ρ)) → eval (each f t) ρ ≡ z *ℤ eval t ρ
 each-is f z (constant b) ρ e = rw (e (constant b)) (regroup z b (first ρ))
   where
     regroup : (z b v : ℤ) → z *ℤ b +ℤ v *ℤ pos 0 ≡ z *ℤ b
     regroup z b v = linear (search (signed, # z, # b, # v) depth 30) (omega arith)
-each-is f z (horner r s) ρ e = rw (e r, each-is f z s ρ e) (regroup z (eval r (rest ρ)) (first ρ) (eval s ρ))
-  where
-    regroup : (a p v q : ℤ) → a *ℤ p +ℤ v *ℤ (a *ℤ q) ≡ a *ℤ (p +ℤ v *ℤ q)
-    regroup a p v q = linear (search (signed, # a, # p, # v, # q) depth 30) (omega arith)
+each-is f z (horner r s) ρ e = rw (e r, each-is f z s ρ e) (scaled z (eval r (rest ρ)) (first ρ) (eval s ρ))
 
 mul-is : (p q : Polynomial) (ρ : List ℤ) → eval (mul p q) ρ ≡ eval p ρ *ℤ eval q ρ
 mul-is (constant a) t ρ = mulK-is a t ρ

@@ -3,7 +3,7 @@
 -- Assumes nothing.
 use mathlib.Core.Path.{_≡_, refl, sym, ap₂, _∙_, subst}
 use mathlib.Core.Logic.{_⊎_, inl, inr, ⊎-elim}
-use mathlib.Core.Bool.{Bool, true, false, cond, _&&_}
+use mathlib.Core.Bool.{Bool, true, false, cond, _&&_, not, _||_, true≢false}
 use Prim.Native.Nat.{ℕ, zero, suc, _+_, _-_, _≤_, _<_}
 use native.Mathlib.Nat.{not-suc-le-zero, le-of-suc-le-suc, eq-or-lt-of-le}
 use native.Mathlib.Numerals.{add-one}
@@ -42,6 +42,38 @@ same-test true true f g = refl
 same-test true false f g = absurd (f tt)
 same-test false true f g = absurd (g tt)
 same-test false false f g = refl
+
+-- none of several
+pub not-left : (a b : Bool) → (a || b) ≡ false → a ≡ false
+not-left true b e = absurd (true≢false e)
+not-left false b e = refl
+
+pub not-right : (a b : Bool) → (a || b) ≡ false → b ≡ false
+not-right true b e = absurd (true≢false e)
+not-right false b e = e
+
+-- the second of two, where the first holds
+pub not-second : (a b : Bool) → (a && b) ≡ false → T a → b ≡ false
+not-second true b e t = e
+not-second false b e t = absurd t
+
+-- one of two, by a test
+pub cond-true : (c a b : Bool) → T (cond c a b) → T c → T a
+cond-true true a b t u = t
+cond-true false a b t u = absurd u
+
+pub cond-false : (c a b : Bool) → T (cond c a b) → T (not c) → T b
+cond-false true a b t u = absurd u
+cond-false false a b t u = t
+
+pub one-or-other : {A : Type 0} (b : Bool) (x y : A) → (cond b x y ≡ x) ⊎ (cond b x y ≡ y)
+one-or-other true x y = inl refl
+one-or-other false x y = inr refl
+
+-- what holds of both
+pub cond-both : {A : Type 0} (P : A → Type 0) (b : Bool) {x y : A} → P x → P y → P (cond b x y)
+cond-both P true h k = h
+cond-both P false h k = k
 
 -- a number that is not 0 follows another
 pub follows : (n : ℕ) → (n ≡ 0 → ⊥) → n ≡ suc (n - 1)

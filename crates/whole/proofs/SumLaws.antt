@@ -2,7 +2,7 @@
 -- Assumes nothing.
 use mathlib.Core.Path.{_≡_, refl, sym, _∙_, ap, ap₂, subst}
 use mathlib.Core.Logic.{_≢_}
-use mathlib.Core.Bool.{Bool, true, false, cond, not, _&&_}
+use mathlib.Core.Bool.{Bool, true, false, cond, _&&_}
 use Prim.Native.Nat.{ℕ, zero, suc, _+_, _*_, _-_, _<_, _≤_}
 use native.Mathlib.Omega.{arith}
 use native.Mathlib.Nat.{mul-le-mul-left}
@@ -14,7 +14,7 @@ use lib.Dec.{T, leb, eqb, leb→le, le→leb, eqb→eq, eqb-refl}
 use Rattle.whole.specs.Whole.{Abs}
 use Rattle.whole.specs.Sum.{only, sum, back, count}
 use Rattle.whole.proofs.LinearLaws.{linear, from2, signed, sizes, #}
-use Rattle.whole.proofs.OrderLaws.{abs-in, in-abs}
+use Rattle.whole.proofs.OrderLaws.{abs-in, in-abs, abs-zero}
 
 -- ---- a test before a term
 pub only-on : (b : Bool) (x : ℤ) → T b → only b x ≡ x
@@ -33,10 +33,6 @@ pub only-add : (b : Bool) (x y : ℤ) → only b (x +ℤ y) ≡ only b x +ℤ on
 only-add true x y = refl
 only-add false x y = refl
 
-pub only-neg : (b : Bool) (x : ℤ) → only b (negℤ x) ≡ negℤ (only b x)
-only-neg true x = refl
-only-neg false x = refl
-
 pub only-zero : (b : Bool) → only b (pos 0) ≡ pos 0
 only-zero true = refl
 only-zero false = refl
@@ -49,14 +45,9 @@ pub only-and : (a b : Bool) (x : ℤ) → only a (only b x) ≡ only (a && b) x
 only-and true b x = refl
 only-and false b x = refl
 
--- a number is its part where the test holds and its part where it does not
-pub only-split : (b : Bool) (x : ℤ) → x ≡ only b x +ℤ only (not b) x
-only-split true x = sym (+ℤ-idr x)
-only-split false x = sym (+ℤ-idl x)
-
 pub only-abs : (b : Bool) {m : ℕ} {x : ℤ} → Abs m x → Abs m (only b x)
 only-abs true h = h
-only-abs false {m} h = abs-in {m = m} {z = pos 0} (omega arith)
+only-abs false {m} h = abs-zero m
 
 -- ---- alike, split, swapped
 pub sum-same : (n : ℕ) (f g : ℕ → ℤ) → ((i : ℕ) → i < n → f i ≡ g i) → sum n f ≡ sum n g

@@ -2,7 +2,7 @@
 use mathlib.Core.Bool.{Bool, false, true}
 use mathlib.Core.List.{List}
 use mathlib.Core.Logic.{_⊎_, ⊎-elim}
-use mathlib.Core.Path.{_≡_, refl, subst, sym}
+use mathlib.Core.Path.{_≡_, refl}
 use Prim.Native.Nat.{_<_, ℕ}
 use lib.Dec.{T}
 use lib.IntN.{pos, ℤ}
@@ -11,7 +11,7 @@ use lib.Signed.{_<ℤ_, clashℤ, leZ, leZ-yes}
 use Rattle.whole.specs.declared.ranges.Range.{Range}
 use Rattle.whole.specs.Ranges.{allWithin, inRange}
 use Rattle.whole.specs.Whole.{In}
-use Rattle.whole.proofs.SearchLaws.{both, every-all, joint, true-is}
+use Rattle.whole.proofs.SearchLaws.{both, every-all, joint, true-is, holds}
 
 pub range-in : (r : Range) (v : ℤ) → T (inRange r v) → In (r .lower) (r .upper) v
 unfolding inRange
@@ -28,7 +28,7 @@ pub out-ranged : (r : Range) (v : ℤ) → (v <ℤ r .lower) ⊎ (r .upper <ℤ 
 out-ranged r v out = go (inRange r v) refl
   where
     go : (b : Bool) → inRange r v ≡ b → b ≡ false
-    go true e = let h = range-in r v (subst T (sym e) tt) in ⊎-elim (λ l. clashℤ l (h .low)) (λ l. clashℤ l (h .high)) out
+    go true e = let h = range-in r v (holds e) in ⊎-elim (λ l. clashℤ l (h .low)) (λ l. clashℤ l (h .high)) out
     go false e = refl
 
 pub within-at : (r : Range) (values : List ℤ) (n : ℕ) → T (allWithin r values n) → (k : ℕ) → k < n → In (r .lower) (r .upper) (getD values k (pos 0))

@@ -8,6 +8,7 @@ use lib.Signed.{leZ}
 use Rattle.whole.specs.declared.ranges.Range.{Range}
 use Rattle.whole.specs.Search.{every}
 
+-- the range from a to b
 abbrev pub between : ℤ → ℤ → Range
 between a b = record { lower = a; upper = b }
 

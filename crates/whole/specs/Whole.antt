@@ -5,7 +5,7 @@ use lib.Dec.{eqb}
 use lib.IntN.{ℤ, pos, negsuc, negℤ, natAbs}
 use lib.Signed.{_≤ℤ_, leZ, quotZ}
 
--- "Floor means toward minus infinity": z / d for a divisor d of 1 or more. Below zero -1 - a becomes -1 - a / d.
+-- "Floor means toward minus infinity": z / d for a divisor d of 1 or more. `negsuc a` is -1 - a, and its floor is -1 - a / d.
 abbrev pub floorOf : ℤ → ℤ → ℤ
 floorOf (pos a) d = pos (a / natAbs d)
 floorOf (negsuc a) d = negsuc (a / natAbs d)

@@ -1,4 +1,5 @@
 // Whole numbers: floor, cut, the lesser, the greater, a number that is held between two (document 01, "Units and ranges").
+pub mod lent;
 pub mod ranges;
 
 ghost use mathlib.Core.Path.{_≡_};
@@ -6,7 +7,7 @@ ghost use lib.IntN.{pos};
 ghost use lib.Signed.{_≤ℤ_};
 ghost use Rattle.whole.specs.Whole.{floorOf, cutOf, isZero, minℤ, maxℤ, clampOf};
 
-// "Floor means toward minus infinity." Inner: the divisor is 1 or more.
+// "Floor means toward minus infinity": a / d. Inner: the divisor is 1 or more.
 pub fn floor_div(a: i64, d: i64) -> i64
     requires { ⌜ pos 1 ≤ℤ d ⌝ }
     ensures { λ r. ⌜ r ≡ floorOf a d ⌝ }
@@ -19,7 +20,7 @@ pub fn floor_div(a: i64, d: i64) -> i64
     }
 }
 
-// "cut means toward zero." Inner: the divisor is 1 or more.
+// "cut means toward zero": a / d. Inner: the divisor is 1 or more.
 pub fn cut_div(a: i64, d: i64) -> i64
     requires { ⌜ pos 1 ≤ℤ d ⌝ }
     ensures { λ r. ⌜ r ≡ cutOf a d ⌝ }
@@ -48,7 +49,7 @@ pub fn greatest(a: i64, b: i64) -> i64
     if a <= b { b } else { a }
 }
 
-// x, or the end that it passes.
+// x held between low and high: x itself, or the end that it passes; low where the two are the wrong way round.
 pub fn clamp(x: i64, low: i64, high: i64) -> i64
     ensures { λ r. ⌜ r ≡ clampOf low high x ⌝ }
 {

@@ -1,15 +1,10 @@
-// Runs stored vectors through the public functions, and the rows of document 01's "Numbers worked by hand" that are no theorems. What it
-// writes is held to the file `stdout`; data/README says where both come from.
-mod batch;
+// Runs through the public functions the rows of document 01's "Numbers worked by hand" that come after l, the six boundaries, and ticks on both sides of
+// what is shown. What it writes is held to the file `stdout`, whose lines are worked by hand.
 mod doubles;
 mod rows;
-mod words;
 
+// The rows, one after the other.
 fn main() {
-    batch::run_cases();
-    batch::run_reads();
-    doubles::run_doubles();
-    doubles::run_reports();
     rows::run_numbers();
     rows::run_grids();
     doubles::run_boundaries();

@@ -1,4 +1,4 @@
-// "300 is AC 02; 80 00 is refused with 2; -1 is sent as 1. 512 blocks pass, 513 refused."
+// Numbers of a file, and files of 512 and 513 blocks (document 01, "Numbers worked by hand").
 ghost use Prim.Native.Nat.{_≤_};
 ghost use lib.ListN.{length};
 use libc::STDOUT_FILENO;
@@ -29,6 +29,7 @@ fn print_number_of(bytes: &[u8]) {
     }
 }
 
+// "300 is AC 02; 80 00 is refused with 2; -1 is sent as 1."
 pub fn run_numbers() {
     print_number_of(b"\xAC\x02");
     print_number_of(b"\x80\x00");
@@ -73,6 +74,7 @@ fn run_grid(columns: u8, rows: u8) {
     print_session(session_of_file(&file[..end]));
 }
 
+// "512 blocks pass, 513 refused.": 64 x 8 x 1 and 27 x 19 x 1 blocks.
 pub fn run_grids() {
     run_grid(64, 8);
     run_grid(27, 19);

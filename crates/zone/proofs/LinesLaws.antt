@@ -15,10 +15,9 @@ use Rattle.whole.proofs.SumLaws.{only-add, only-back, only-off, only-sum, only-
 use Rattle.grid.specs.declared.Grid.{Grid}
 use Rattle.grid.specs.Place.{Counted, blocksOf, strideOf}
 use Rattle.grid.specs.Units.{above}
-use Rattle.grid.proofs.PlaceLaws.{next-inside}
 use Rattle.slices.specs.Slices.{Case}
 use Rattle.wellformed.specs.Links.{activeOf, liveOf}
-use Rattle.wellformed.proofs.LinksLaws.{live-high, live-low, live-next}
+use Rattle.wellformed.proofs.LinksLaws.{live-high, live-low, live-inside}
 use Rattle.books.specs.Bookkeeping.{Books, booksOf, broughtOf}
 use Rattle.books.proofs.CarriedLaws.{books-lateral, brought-dead}
 use Rattle.balance.specs.Balance.{balanceIn, flowsOf, throughOf}
@@ -116,9 +115,6 @@ module _ (c : Case) (counted : Counted (c .grid)) (fluid : ℕ) where
       go true e = ap (λ (t : Bool). only t (broughtOf F low d i)) (h (holds e))
       go false e = rw (brought-dead c fluid d i low e) (only-zero a ∙ sym (only-zero b))
 
-  far-inside : (d i : ℕ) → i < n → T (liveOf g (c .slots) d i) → i + strideOf g d < n
-  far-inside d i l t = next-inside g counted d i l (live-next g (c .slots) d i t)
-
   marked-active : (z : ℕ → Bool) (i : ℕ) → T (activeOf (c .slots) i) → inZone (c .slots) z i ≡ z i
   unfolding inZone
   marked-active z i active = same-test (z i && activeOf (c .slots) i) (z i) (λ t. both (z i) (activeOf (c .slots) i) t .0) (λ t. joint (z i) (activeOf (c .slots) i) t active)
@@ -129,7 +125,7 @@ module _ (c : Case) (counted : Counted (c .grid)) (fluid : ℕ) where
   along z d =
       sum-same n (λ i. only (m i) (low i +ℤ back s high i)) (λ i. leading i +ℤ back s ending i) (λ i l. only-add (m i) (low i) (back s high i) ∙ ap (λ x. leading i +ℤ x) (only-back s m high i))
       ∙ sum-add n leading (back s ending)
-      ∙ ap (λ x. sum n leading +ℤ x) (sum-move n s ending (λ i l h. where-live d i false (m (i + s)) false (λ t. absurd (h (far-inside d i l t)))))
+      ∙ ap (λ x. sum n leading +ℤ x) (sum-move n s ending (λ i l h. where-live d i false (m (i + s)) false (λ t. absurd (h (live-inside g (c .slots) d i t counted l)))))
       ∙ sym (sum-add n leading ending)
       ∙ sum-same n (λ i. leading i +ℤ ending i) (toMarked g F z d)
       (λ i l. ap₂ _+ℤ_ (where-live d i true (m i) (z i) (λ t. marked-active z i (live-low g (c .slots) d i t))) (where-live d i false (m (i + s)) (z (i + s)) (λ t. marked-active z (i + s) (live-high g (c .slots) d i t))))
@@ -174,7 +170,7 @@ module _ (c : Case) (counted : Counted (c .grid)) (fluid : ℕ) where
     unfolding edgeOf atEdge
     edge-same d i l =
         let far : ℕ = i + strideOf g d in
-        rw (alike i l) (where-live d i (w i) (differ (w i) (z far)) (differ (w i) (w far)) (λ t. ap (differ (w i)) (alike far (far-inside d i l t))))
+        rw (alike i l) (where-live d i (w i) (differ (w i) (z far)) (differ (w i) (w far)) (λ t. ap (differ (w i)) (alike far (live-inside g (c .slots) d i t counted l))))
 
     converted-same : (i : ℕ) → i < n → convertedAt g F z i ≡ convertedAt g F w i
     unfolding convertedAt
@@ -190,7 +186,7 @@ module _ (c : Case) (counted : Counted (c .grid)) (fluid : ℕ) where
         turns z = (z i && z far) && changes F i
 
         side : (low : Bool) → only (turns z) (brought low) ≡ only (turns w) (brought low)
-        side low = where-live above i low (turns z) (turns w) (λ t. ap₂ (λ a b. (a && b) && changes F i) (alike i l) (alike far (far-inside above i l t)))
+        side low = where-live above i low (turns z) (turns w) (λ t. ap₂ (λ a b. (a && b) && changes F i) (alike i l) (alike far (live-inside g (c .slots) above i t counted l)))
 
     own-same : (i : ℕ) → i < n → ownIn (c .slots) F z i ≡ ownIn (c .slots) F w i
     unfolding ownIn inZone

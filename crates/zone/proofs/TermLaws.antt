@@ -19,19 +19,19 @@ use Rattle.slices.specs.Slices.{Case}
 use Rattle.block.specs.Fluids.{inFluid}
 use Rattle.block.specs.Units.{mostVolume}
 use Rattle.flow.specs.Litres.{mostFlow, mostOverArea}
-use Rattle.wellformed.specs.Limits.{WellFormed, lowOf}
+use Rattle.wellformed.specs.Limits.{WellFormed, blockIn}
 use Rattle.wellformed.specs.Links.{activeOf}
 use Rattle.wellformed.proofs.LinksLaws.{outside-dead}
 use Rattle.books.specs.declared.own.Own.{Own}
 use Rattle.books.specs.Bookkeeping.{Books, booksOf, broughtOf}
 use Rattle.books.specs.Rows.{Row, pairOf}
-use Rattle.books.specs.Terms.{fixedOf, ownOf}
+use Rattle.books.specs.Own.{fixedOf, ownOf}
 use Rattle.books.proofs.CarriedLaws.{brought-dead, brought-in}
-use Rattle.books.proofs.TermsLaws.{own-boundary-in, own-pumped-in, own-recharge-in, own-storage-in}
+use Rattle.books.proofs.OwnLaws.{own-boundary-in, own-pumped-in, own-recharge-in, own-storage-in}
 use Rattle.balance.specs.Balance.{balanceIn, balancesOf, mostBalance}
 use Rattle.balance.proofs.BalanceLaws.{balance-active, balance-in, balance-in-fluid}
 use Rattle.zone.specs.declared.lines.Lines.{Lines}
-use Rattle.zone.specs.declared.own.Settlement.{Settlement}
+use Rattle.zone.specs.declared.holdings.Settlement.{Settlement}
 use Rattle.zone.specs.Exchange.{atEdge, changes, convertedAt, edgeOf, edgesOf, inflowOf, outflowOf}
 use Rattle.zone.specs.Holdings.{nothing, ownIn, settledOf}
 use Rattle.zone.specs.Table.{termsOf}
@@ -180,8 +180,8 @@ settled-same false fixed a b h = refl
 
 -- and is read from a row of balances
 pub settled-read : (c : Case) (row : List ℤ) → Row (blocksOf (c .grid)) (balancesOf c) row → (fluid : ℕ) → fluid < 2 → (z : ℕ → Bool) (i : ℕ) → i < blocksOf (c .grid)
-    → settledOf (inZone (c .slots) z i) (fixedOf (lowOf c i) fluid) (inFluid (pairOf row i) fluid) ≡ settledOf (inZone (c .slots) z i) (booksOf c fluid .fixed i) (balanceIn (c .grid) (booksOf c fluid) i)
+    → settledOf (inZone (c .slots) z i) (fixedOf (blockIn c i) fluid) (inFluid (pairOf row i) fluid) ≡ settledOf (inZone (c .slots) z i) (booksOf c fluid .fixed i) (balanceIn (c .grid) (booksOf c fluid) i)
 unfolding booksOf
 settled-read c row filled fluid h z i l =
-    settled-same (inZone (c .slots) z i) (fixedOf (lowOf c i) fluid) (inFluid (pairOf row i) fluid) (balanceIn (c .grid) (booksOf c fluid) i)
+    settled-same (inZone (c .slots) z i) (fixedOf (blockIn c i) fluid) (inFluid (pairOf row i) fluid) (balanceIn (c .grid) (booksOf c fluid) i)
     (λ t. rw (filled .each i l) (balance-in-fluid c fluid i h ∙ balance-active c fluid i (zone-active (c .slots) z i (true-is t))))

@@ -1,4 +1,4 @@
--- What the tables of zones say (demand 3; document 01, "Balance, verdict, table"), in each fluid. Assumes nothing.
+-- What the tables of zones say (the client's demand 3; document 01, "Balance, verdict, table"), in each fluid. Assumes nothing.
 use mathlib.Core.Bool.{Bool, _&&_, _||_, cond, false, not, true}
 use mathlib.Core.List.{List}
 use mathlib.Core.Path.{_∙_, _≡_, ap, ap₂, refl, sym}
@@ -66,8 +66,8 @@ line-adds g slots z w apart x none =
     sum-same (blocksOf g) _ _ (λ i l. marks-add (z i) (w i) (activeOf slots i) (λ marked. x marked i) (none i) (apart i l))
     ∙ sum-add (blocksOf g) _ _
 
--- "storage, wells, recharge, boundary, supply and error of the joined zone are the sums of the two; edge in less edge out plus converted also adds
--- exactly"
+-- Demand 3: "storage, wells, recharge, boundary, supply and error of the joined zone are the sums of the two; edge in less edge out plus converted also
+-- adds exactly"
 pub adds : (c : Case) → Counted (c .grid) → (z w : ℕ → Bool) → Apart (c .grid) z w → (fluid : ℕ) → Adds (linesOf c z fluid) (linesOf c w fluid) (linesOf c (joined z w) fluid)
 unfolding linesBy totalsOf termsOf ownIn settledOf
 adds c counted z w apart fluid =

@@ -1,4 +1,4 @@
--- What the theorems about tables speak of (demand 3; document 01, "Balance, verdict, table").
+-- What the theorems about tables speak of (the client's demand 3; document 01, "Balance, verdict, table").
 use mathlib.Core.Bool.{Bool, _&&_, _||_, not}
 use mathlib.Core.List.{List}
 use mathlib.Core.Path.{_≡_}
@@ -17,11 +17,11 @@ Closes l =
     l .storage +ℤ l .error
     ≡ l .«edge_in» -ℤ l .«edge_out» +ℤ l .converted +ℤ l .wells +ℤ l .recharge +ℤ l .boundary +ℤ l .supply
 
--- "edge in less edge out plus converted"
+-- of demand 3: "edge in less edge out plus converted"
 abbrev pub crossed : Lines → ℤ
 crossed l = l .«edge_in» -ℤ l .«edge_out» +ℤ l .converted
 
--- Demand 3: "in each fluid storage, wells, recharge, boundary, supply and error of the joined zone are the sums of the two; edge in less edge
+-- of demand 3: "in each fluid storage, wells, recharge, boundary, supply and error of the joined zone are the sums of the two; edge in less edge
 -- out plus converted also adds exactly"
 pub record Adds (a b both : Lines) : Type 0 where
   pub storage : both .storage ≡ a .storage +ℤ b .storage
@@ -32,14 +32,14 @@ pub record Adds (a b both : Lines) : Type 0 where
   pub error : both .error ≡ a .error +ℤ b .error
   pub crosses : crossed both ≡ crossed a +ℤ crossed b
 
--- "two zones with no block in common"
+-- of demand 3: "two zones with no block in common"
 abbrev pub Apart : Grid → (ℕ → Bool) → (ℕ → Bool) → Type 0
 Apart g z w = (i : ℕ) → i < blocksOf g → T (not (z i && w i))
 
--- "the joined zone"
+-- of demand 3: "the joined zone"
 abbrev pub joined : (ℕ → Bool) → (ℕ → Bool) → ℕ → Bool
 joined z w i = z i || w i
 
--- Demand 3: "the zone's active blocks that are free in that fluid", by the fluid's books
+-- of demand 3: "the zone's active blocks that are free in that fluid", by the fluid's books
 unfoldable pub freeIn : List ℤ → Books → (ℕ → Bool) → ℕ → Bool
 freeIn slots F z i = inZone slots z i && not (F .fixed i)

@@ -9,7 +9,7 @@ use Rattle.grid.specs.declared.Grid.{Grid}
 use Rattle.grid.specs.Place.{strideOf}
 use Rattle.grid.specs.Units.{above}
 use Rattle.books.specs.Bookkeeping.{Books, broughtOf}
-use Rattle.zone.specs.declared.links.Crossing.{Crossing}
+use Rattle.zone.specs.declared.exchange.Crossing.{Crossing}
 use Rattle.zone.specs.Zones.{differ}
 
 -- ---- edge lines
@@ -23,14 +23,15 @@ atEdge g z d i = differ (z i) (z (i + strideOf g d))
 unfoldable pub edgeOf : Grid → Books → (ℕ → Bool) → ℕ → ℕ → ℤ
 edgeOf g F z d i = only (atEdge g z d i) (broughtOf F (z i) d i)
 
--- read as positive litres both, link by link (docs/DECISIONS.md, "Zones")
+-- "inflow as the fluid that arrives"; inflow and outflow of a link are both positive litres (docs/DECISIONS.md, "Zones")
 abbrev pub inflowOf : ℤ → ℤ
 inflowOf gain = maxℤ (pos 0) gain
 
+-- "outflow as the fluid that leaves"
 abbrev pub outflowOf : ℤ → ℤ
 outflowOf gain = maxℤ (pos 0) (negℤ gain)
 
--- by the three links that lead on from a block
+-- what crosses the edge each way by the three links that lead on from a block
 unfoldable pub edgesOf : Grid → Books → (ℕ → Bool) → ℕ → Crossing
 edgesOf g F z i =
     record {

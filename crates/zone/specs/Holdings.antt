@@ -6,10 +6,10 @@ use lib.IntN.{negℤ, pos, ℤ}
 use Rattle.whole.specs.Sum.{only}
 use Rattle.books.specs.declared.own.Own.{Own}
 use Rattle.books.specs.Bookkeeping.{Books}
-use Rattle.zone.specs.declared.own.Settlement.{Settlement}
+use Rattle.zone.specs.declared.holdings.Settlement.{Settlement}
 use Rattle.zone.specs.Zones.{inZone}
 
--- of a block that is not marked or not active
+-- the own terms of a block that is not marked or not active
 abbrev pub nothing : Own
 nothing = record { recharge = pos 0; boundary = pos 0; pumped = pos 0; storage = pos 0 }
 

@@ -1,3 +1,4 @@
+-- The definitions of `zone`, for the crates above.
 pub mod Zones
 pub mod Exchange
 pub mod Holdings

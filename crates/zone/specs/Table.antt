@@ -10,7 +10,7 @@ use Rattle.grid.specs.declared.Grid.{Grid}
 use Rattle.grid.specs.Place.{blocksOf}
 use Rattle.slices.specs.Slices.{Case}
 use Rattle.wellformed.specs.Limits.{WellFormed}
-use Rattle.books.specs.Blocks.{Watered}
+use Rattle.books.specs.Waters.{Watered}
 use Rattle.books.specs.Bookkeeping.{Books, booksOf}
 use Rattle.books.specs.Rows.{Row}
 use Rattle.balance.specs.Balance.{balanceIn, balancesOf}
@@ -53,7 +53,7 @@ totalsOf n f =
 unfoldable pub linesBy : Grid → List ℤ → Books → (ℕ → Bool) → Lines
 linesBy g slots F z = totalsOf (blocksOf g) (termsOf g slots F z)
 
--- of a case
+-- the nine lines of a zone of a case, in one fluid
 abbrev pub linesOf : Case → (ℕ → Bool) → ℕ → Lines
 linesOf c z fluid = linesBy (c .grid) (c .slots) (booksOf c fluid) z
 

@@ -7,7 +7,7 @@ use lib.ListN.{getD}
 use lib.Signed.{ltZ}
 use Rattle.wellformed.specs.Links.{activeOf}
 
--- "A zone is a mark 0 or 1 per block." Any number above 0 marks here; 11 leaves 0 and 1 alone.
+-- "A zone is a mark 0 or 1 per block." Any number above 0 marks here; what is neither 0 nor 1 has been refused with 11.
 unfoldable pub markedOf : List ℤ → ℕ → Bool
 markedOf marks i = ltZ (pos 0) (getD marks i (pos 0))
 

@@ -6,13 +6,14 @@ ghost use Rattle.slices.specs.Slices.{caseOf};
 ghost use Rattle.books.specs.Bookkeeping.{booksOf};
 ghost use Rattle.zone.specs.Zones.{markedOf};
 ghost use Rattle.zone.specs.Table.{termsOf, Ready};
-use super::links::converted;
-use super::links::edges;
-use super::own::own_in_zone;
-use super::own::settle;
+use super::exchange::converted;
+use super::exchange::edges;
+use super::holdings::own_in_zone;
+use super::holdings::settle;
 use grid::Grid;
 use grid::place::place_of;
 
+// A number for each of the nine lines, litres a day.
 pub struct Lines {
     pub storage: i64,
     pub edge_in: i64,
@@ -26,8 +27,8 @@ pub struct Lines {
     pub error: i64,
 }
 
-// What a block, with the three links that lead on from it, gives to each line of a fluid. Inner: the case is well formed, the rows hold its
-// thicknesses and its balances, the marks reach over the grid, the block is inside, and the fluid is one of the two.
+// What a block, with the three links that lead on from it, gives to each line of a fluid, litres a day. Inner: the case is well formed, the rows
+// hold its thicknesses and its balances, the marks reach over the grid, the block is inside, and the fluid is one of the two.
 pub fn terms(
     g: Grid,
     columns: &[i64],

@@ -1,18 +1,19 @@
 -- `account` meets its contract: both rows are filled with what the table reads. Assumes nothing.
 use mathlib.Core.Path.{_∙_, ap}
 use Prim.Native.Nat.{_*_, _≤_}
+use native.Mathlib.Nat.{le-refl}
 use native.Mathlib.Omega.{arith}
 use borrow.Author.Needs.{needs}
 use Rattle.grid.specs.Place.{blocksOf}
 use Rattle.slices.specs.Slices.{Case, caseOf, none}
-use Rattle.books.specs.Blocks.{Slotted, Watered, watersOf}
+use Rattle.books.specs.Waters.{Slotted, Watered}
 use Rattle.books.specs.Rows.{Row}
-use Rattle.books.proofs.BlocksLaws.{slotted}
-use Rattle.books.proofs.RowsLaws.{filled-row}
+use Rattle.books.proofs.WatersLaws.{slotted, filled-watered}
 use Rattle.balance.specs.Balance.{balancesOf}
+use Rattle.balance.proofs.BalanceLaws.{filled-balanced}
 use Rattle.zone.specs.Zones.{markedOf}
 use Rattle.budget.specs.Answers.{eighteenOf}
-use Rattle.budget.specs.Tables.{flatOf}
+use Rattle.budget.specs.Table.{flatOf}
 use Rattle.budget.proofs.AnswersLaws.{dry-tabled, flat-table, wet-tabled}
 use Rattle.budget.proofs.account.Statement.{statement}
 use Rattle.budget.proofs.account.Tie as tie
@@ -27,7 +28,7 @@ ready : (c : tie.Start) → Slotted (c .args .g) (c .args .slots .now)
 ready c = slotted (caseIn c) (c .pre .0 .judged)
 
 watered : (c : tie.After-fill-waters) → Watered (c .before .before .args .g) (c .before .before .args .slots .now) (c .fill-waters .last .1 .1 .0)
-watered c = rw (c .fill-waters .ensures) (filled-row (blocksOf (c .before .before .args .g)) (watersOf (c .before .before .args .g) (c .before .before .args .slots .now)) _ (room (c .before .before)))
+watered c = filled-watered _ _ _ (ready (c .before .before)) (c .fill-waters .ensures) (le-refl 1024)
 
 returns : tie.Need-returns
 returns c =
@@ -35,7 +36,7 @@ returns c =
     ∙ rw (← c .before .before .first-dry .ensures) (dry-tabled (c .before .before .first-dry .result) (eighteenOf (caseIn (c .before .before .before .before .before .before .before)) (markedOf (c .before .before .before .before .before .before .before .args .marks .now))) (c .before .if1 .taken))
 
 balanced : (c : tie.After-fill-balances) → Row (blocksOf (c .before .before .before .before .before .before .before .before .before .args .g)) (balancesOf (caseIn (c .before .before .before .before .before .before .before .before .before))) (c .fill-balances .last .1 .1 .1 .1 .1 .0)
-balanced c = rw (c .fill-balances .ensures) (filled-row (blocksOf (c .before .before .before .before .before .before .before .before .before .args .g)) (balancesOf (caseIn (c .before .before .before .before .before .before .before .before .before))) _ (room (c .before .before .before .before .before .before .before .before .before)))
+balanced c = let s = c .before .before .before .before .before .before .before .before .before in filled-balanced (caseIn s) _ (s .pre .0 .judged .counted) (c .fill-balances .ensures) (le-refl 1024)
 
 returns-2 : tie.Need-returns-2
 returns-2 c =

@@ -5,7 +5,7 @@ use native.Mathlib.Omega.{arith}
 use Rattle.whole.specs.Search.{firstOf}
 use Rattle.whole.proofs.SearchLaws.{first-found, first-more, first-start}
 use Rattle.grid.specs.Place.{blocksOf}
-use Rattle.books.specs.Blocks.{dryAt}
+use Rattle.books.specs.Waters.{dryAt}
 use Rattle.budget.specs.Answers.{dryOf}
 use Rattle.budget.proofs.first_dry.Statement.{statement}
 use Rattle.budget.proofs.first_dry.Tie as tie

@@ -5,22 +5,22 @@ use lib.ListN.{getD}
 use borrow.Author.Needs.{needs}
 use Rattle.whole.proofs.RangeLaws.{leaf, no-less, read-back, unsign-ok}
 use Rattle.casefile.specs.declared.fields.Part.the-variants.{Counts}
-use Rattle.casefile.specs.Fields.{endsOf, headRange}
+use Rattle.casefile.specs.Fields.{endsOf, recordRange}
 use Rattle.casefile.specs.Reading.{countedOf}
 use Rattle.casefile.proofs.ReadingLaws.{number-in}
 use Rattle.casefile.proofs.counted.Statement.{statement}
 use Rattle.casefile.proofs.counted.Tie as tie
 
 cast-columns : tie.Need-cast-t4
-unfolding endsOf headRange
+unfolding endsOf recordRange
 cast-columns c = let h = number-in Counts 3 (c .before .args .counts .now) (c .before .pre .1) 0 (omega arith) in unsign-ok (no-less (leaf h) tt) (record { sfits = c .t3 .given })
 
 cast-rows : tie.Need-cast-t7
-unfolding endsOf headRange
+unfolding endsOf recordRange
 cast-rows c = let h = number-in Counts 3 (c .before .before .args .counts .now) (c .before .before .pre .1) 1 (omega arith) in unsign-ok (no-less (leaf h) tt) (record { sfits = c .t6 .given })
 
 cast-layers : tie.Need-cast-t10
-unfolding endsOf headRange
+unfolding endsOf recordRange
 cast-layers c = let h = number-in Counts 3 (c .before .before .before .args .counts .now) (c .before .before .before .pre .1) 2 (omega arith) in unsign-ok (no-less (leaf h) tt) (record { sfits = c .t9 .given })
 
 returns : tie.Need-returns

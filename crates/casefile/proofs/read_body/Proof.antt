@@ -6,12 +6,13 @@ use lib.IntN.{pos}
 use lib.ListN.{length, replicate, take}
 use lib.Seq.{length-take-le}
 use borrow.Author.Needs.{needs}
+use Rattle.whole.specs.Lent.{over}
 use Rattle.grid.specs.Place.{blocksOf}
 use Rattle.slices.specs.Slices.{Case, Judged, caseOf}
 use Rattle.casefile.specs.declared.fields.Part.the-variants.{Widths}
 use Rattle.casefile.specs.declared.runs.Run.the-variants.{Done}
-use Rattle.casefile.specs.Reading.{bodyOf, caseFrom, rowsFrom, settledOf, slotsFrom}
-use Rattle.casefile.specs.Runs.{blocksFrom, endingOf, fillOf, over}
+use Rattle.casefile.specs.Reading.{bodyOf, caseFrom, rowsFrom, storedOf, slotsFrom}
+use Rattle.casefile.specs.Runs.{blocksFrom, endingOf, fillOf}
 use Rattle.casefile.proofs.ReadingLaws.{body-case, body-done, case-judged, judging-goes-on, judging-stays}
 use Rattle.casefile.proofs.read_body.Statement.{statement}
 use Rattle.casefile.proofs.read_body.Tie as tie
@@ -58,20 +59,20 @@ returns : tie.Need-returns
 unfolding bodyOf
 returns c =
     let a = c .before .before .before .before .before .before .before .before .before .before .before .before .before .before .before .args in
-    let e = judging-stays (c .before .before .before .ending .result) (endingOf (slotsFrom (a .g) (a .file .now) (a .at) .run) (a .file .now)) (settledOf (caseFrom (a .g) (a .file .now) (a .at))) (end (c .before .before .before)) (c .before .if1 .taken) in
+    let e = judging-stays (c .before .before .before .ending .result) (endingOf (slotsFrom (a .g) (a .file .now) (a .at) .run) (a .file .now)) (storedOf (caseFrom (a .g) (a .file .now) (a .at))) (end (c .before .before .before)) (c .before .if1 .taken) in
     rw e (c .refused .ensures, (refl, (refl, refl)))
 
-share-columns : tie.Need-slice-aggregate-settle
+share-columns : tie.Need-slice-aggregate-store
 share-columns c = sym (length-take-le (c .before .before .before .before .before .before .before .before .before .before .before .before .before .before .before .args .g .columns) (c .before .before .before .before .before .before .before .before .before .before .before .fill .last .1 .1 .1 .1 .0) (columns-room (c .before .before .before .before .before .before .before .before .before .before .before)))
 
-share-rows : tie.Need-slice-aggregate-settle-2
+share-rows : tie.Need-slice-aggregate-store-2
 share-rows c = sym (length-take-le (c .before .before .before .before .before .before .before .before .before .before .before .before .before .before .before .before .args .g .rows) (c .before .before .before .before .before .before .before .before .before .fill2 .last .1 .1 .1 .1 .0) (rows-room (c .before .before .before .before .before .before .before .before .before)))
 
-share-slots : tie.Need-slice-aggregate-settle-3
+share-slots : tie.Need-slice-aggregate-store-3
 share-slots c = sym (length-take-le (16 * c .before .before .before .before .before .before .before .before .before .before .before .before .before .before .before .blocks2 .result) (c .before .before .before .before .before .before .before .fill-blocks .last .1 .1 .1 .0) (slots-room (c .before .before .before .before .before .before .before)))
 
-settle-requires : tie.Need-settle-requires
-settle-requires c κs =
+store-requires : tie.Need-store-requires
+store-requires c κs =
     let s = c .before .before .before .before .before .before .before .before .before .before .before .before .before .before .before .before .before .before .before .before in
     let d = done-at (c .before .before .before .before .before .before .before .before) (c .before .before .before .before .before .before .if1 .left) in
     let room = s .pre .1 in (
@@ -90,8 +91,8 @@ unfolding bodyOf
 returns-2 c =
     let a = c .before .before .before .before .before .before .before .before .before .before .before .before .before .before .before .before .before .before .before .before .before .before .before .before .args in
     let d = done-at (c .before .before .before .before .before .before .before .before .before .before .before .before) (c .before .before .before .before .before .before .before .before .before .before .if1 .left) in
-    let e = judging-goes-on (c .before .before .before .before .before .before .before .before .before .before .before .before .ending .result) (endingOf (slotsFrom (a .g) (a .file .now) (a .at) .run) (a .file .now)) (settledOf (caseFrom (a .g) (a .file .now) (a .at))) (end (c .before .before .before .before .before .before .before .before .before .before .before .before)) (c .before .before .before .before .before .before .before .before .before .before .if1 .left) in
-    rw (e, ← case-left (c .before .before .before .before .before .before .before .before .before .before .before .before .before .before) (d .0) (d .1)) (c .before .before .before .settle .ensures)
+    let e = judging-goes-on (c .before .before .before .before .before .before .before .before .before .before .before .before .ending .result) (endingOf (slotsFrom (a .g) (a .file .now) (a .at) .run) (a .file .now)) (storedOf (caseFrom (a .g) (a .file .now) (a .at))) (end (c .before .before .before .before .before .before .before .before .before .before .before .before)) (c .before .before .before .before .before .before .before .before .before .before .if1 .left) in
+    rw (e, ← case-left (c .before .before .before .before .before .before .before .before .before .before .before .before .before .before) (d .0) (d .1)) (c .before .before .before .store .ensures)
 
 pub read-body-spec : {M : Type 1} → statement M
 read-body-spec =
@@ -114,7 +115,7 @@ read-body-spec =
     share-rows
     (λ c. slots-room (c .before .before .before .before .before .before))
     share-slots
-    settle-requires
+    store-requires
     (λ c. search needs)
     (λ c. search needs)
     (λ c. search needs)

@@ -10,7 +10,7 @@ use Rattle.slices.proofs.SlicesLaws.{shape-stands}
 use Rattle.casefile.specs.declared.fields.Part.the-variants.{Counts}
 use Rattle.casefile.specs.declared.runs.Run.the-variants.{Done}
 use Rattle.casefile.specs.Fields.{Within}
-use Rattle.casefile.specs.Reading.{countedOf, judging, readingOf, termsOf}
+use Rattle.casefile.specs.Reading.{countedOf, judging, readingOf, afterCounts}
 use Rattle.casefile.specs.Runs.{fillOf}
 use Rattle.casefile.proofs.FilledLaws.{fill-within}
 use Rattle.casefile.proofs.ReadingLaws.{counts-done, counts-refused, counts-sent, fill-of-whole, judging-goes-on, judging-stays}
@@ -31,7 +31,7 @@ caseGiven c = caseOf (c .counted .result) (c .before .before .before .before .be
 
 whole : (c : tie.After-counted) →
     readingOf (c .before .before .before .before .before .before .before .before .before .args .file .now) (c .before .before .before .before .before .before .before .before .before .args .columns .now) (c .before .before .before .before .before .before .before .before .before .args .rows .now) (c .before .before .before .before .before .before .before .before .before .args .slots .now)
-    ≡ judging (firstRefusal (shapeOf (caseGiven c))) (termsOf (c .counted .result) (c .before .before .before .before .before .before .before .before .before .args .file .now) (c .before .before .before .next .given .0 .0))
+    ≡ judging (firstRefusal (shapeOf (caseGiven c))) (afterCounts (c .counted .result) (c .before .before .before .before .before .before .before .before .before .args .file .now) (c .before .before .before .next .given .0 .0))
 whole c = counts-done (c .before .before .before .before .before .before .before .before .before .args .file .now) (c .before .before .before .before .before .before .before .before .before .args .columns .now) (c .before .before .before .before .before .before .before .before .before .args .rows .now) (c .before .before .before .before .before .before .before .before .before .args .slots .now) (c .before .before .before .before .before .before .fill .result) (c .before .before .before .before .before .before .fill .ensures .0) (c .counted .result) (c .before .before .before .next .given .0 .0) (c .before .before .before .next .given .1) (record-read c)
 
 counted-requires : tie.Need-counted-requires
@@ -42,7 +42,7 @@ counted-requires c κs =
 
 returns : tie.Need-returns
 returns c =
-    let e = judging-stays (c .before .before .before .shape .result) (firstRefusal (shapeOf (caseGiven (c .before .before .before .before .before .before .before)))) (termsOf (c .before .before .before .before .before .before .before .counted .result) (c .before .before .before .before .before .before .before .before .before .before .before .before .before .before .before .before .args .file .now) (c .before .before .before .before .before .before .before .before .before .before .next .given .0 .0)) (c .before .before .before .shape .ensures) (c .before .if1 .taken) in
+    let e = judging-stays (c .before .before .before .shape .result) (firstRefusal (shapeOf (caseGiven (c .before .before .before .before .before .before .before)))) (afterCounts (c .before .before .before .before .before .before .before .counted .result) (c .before .before .before .before .before .before .before .before .before .before .before .before .before .before .before .before .args .file .now) (c .before .before .before .before .before .before .before .before .before .before .next .given .0 .0)) (c .before .before .before .shape .ensures) (c .before .if1 .taken) in
     rw (whole (c .before .before .before .before .before .before .before) ∙ e) (c .refused2 .ensures, (refl, (refl, refl)))
 
 read-terms-requires : tie.Need-read-terms-requires
@@ -55,7 +55,7 @@ returns-2 c =
 
 returns-3 : tie.Need-returns-3
 returns-3 c =
-    let e = judging-goes-on (c .before .before .before .before .before .before .before .before .before .shape .result) (firstRefusal (shapeOf (caseGiven (c .before .before .before .before .before .before .before .before .before .before .before .before .before)))) (termsOf (c .before .before .before .before .before .before .before .before .before .before .before .before .before .counted .result) (c .before .before .before .before .before .before .before .before .before .before .before .before .before .before .before .before .before .before .before .before .before .before .args .file .now) (c .before .before .before .before .before .before .before .before .before .before .before .before .before .before .before .before .next .given .0 .0)) (c .before .before .before .before .before .before .before .before .before .shape .ensures) (c .before .before .before .before .before .before .before .if1 .left) in
+    let e = judging-goes-on (c .before .before .before .before .before .before .before .before .before .shape .result) (firstRefusal (shapeOf (caseGiven (c .before .before .before .before .before .before .before .before .before .before .before .before .before)))) (afterCounts (c .before .before .before .before .before .before .before .before .before .before .before .before .before .counted .result) (c .before .before .before .before .before .before .before .before .before .before .before .before .before .before .before .before .before .before .before .before .before .before .args .file .now) (c .before .before .before .before .before .before .before .before .before .before .before .before .before .before .before .before .next .given .0 .0)) (c .before .before .before .before .before .before .before .before .before .shape .ensures) (c .before .before .before .before .before .before .before .if1 .left) in
     rw (whole (c .before .before .before .before .before .before .before .before .before .before .before .before .before) ∙ e) (c .before .before .before .read-terms .ensures)
 
 pub read-case-spec : {M : Type 1} → statement M

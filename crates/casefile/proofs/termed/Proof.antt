@@ -5,14 +5,14 @@ use lib.ListN.{getD}
 use borrow.Author.Needs.{needs}
 use Rattle.whole.proofs.RangeLaws.{leaf, no-less, read-back, unsign-ok}
 use Rattle.casefile.specs.declared.fields.Part.the-variants.{Terms}
-use Rattle.casefile.specs.Fields.{endsOf, headRange}
+use Rattle.casefile.specs.Fields.{endsOf, recordRange}
 use Rattle.casefile.specs.Reading.{termedOf}
 use Rattle.casefile.proofs.ReadingLaws.{number-in}
 use Rattle.casefile.proofs.termed.Statement.{statement}
 use Rattle.casefile.proofs.termed.Tie as tie
 
 cast-flag : tie.Need-cast-t7
-unfolding endsOf headRange
+unfolding endsOf recordRange
 cast-flag c = let h = number-in Terms 4 (c .before .before .args .terms .now) (c .before .before .pre .1) 1 (omega arith) in unsign-ok (no-less (leaf h) tt) (record { sfits = c .t6 .given })
 
 returns : tie.Need-returns

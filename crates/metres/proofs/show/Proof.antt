@@ -1,10 +1,10 @@
 -- `show` meets its contract: a tick is shown where a double holds it. Assumes nothing.
-use mathlib.Core.Path.{_∙_, ap, refl, subst, sym}
-use lib.Dec.{T}
+use mathlib.Core.Path.{_∙_, ap, refl}
 use lib.IntN.{negℤ, pos}
 use borrow.Author.Needs.{needs}
 use mir.Facts.{toZ-ofZ}
 use Rattle.whole.specs.Ranges.{between}
+use Rattle.whole.proofs.SearchLaws.{holds}
 use Rattle.whole.proofs.WithinLaws.{range-in}
 use Rattle.metres.specs.Metres.{metresOf, mostShown}
 use Rattle.metres.proofs.AnswersLaws.{is-shown, not-shown, ranged}
@@ -14,7 +14,7 @@ use Rattle.metres.proofs.show.Tie as tie
 metres-of-requires : tie.Need-metres-of-requires
 metres-of-requires c κs =
     let s = c .before .before in
-    rw (toZ-ofZ (s .fits .tick)) (range-in (between (negℤ (pos mostShown)) (pos mostShown)) (s .args .tick) (subst T (sym (ranged _ refl (toZ-ofZ (s .fits .tick)) (c .before .in-range .ensures) (c .if1 .taken))) tt))
+    rw (toZ-ofZ (s .fits .tick)) (range-in (between (negℤ (pos mostShown)) (pos mostShown)) (s .args .tick) (holds (ranged _ refl (toZ-ofZ (s .fits .tick)) (c .before .in-range .ensures) (c .if1 .taken))))
 
 returns : tie.Need-returns
 returns c =

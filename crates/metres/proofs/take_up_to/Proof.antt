@@ -1,6 +1,6 @@
 -- `take_up_to` meets its contract: a double is no number, or far, or its tick decides. Assumes nothing.
 use mathlib.Core.Bool.{Bool}
-use mathlib.Core.Path.{_≡_, subst, sym}
+use mathlib.Core.Path.{_≡_}
 use lib.Dec.{T}
 use lib.Ieee.{Float, binary64, fits}
 use lib.IntN.{negℤ, pos}
@@ -8,6 +8,7 @@ use borrow.Author.Needs.{needs}
 use mir.Facts.{toZ-ofZ}
 use Rattle.whole.specs.Ranges.{between}
 use Rattle.whole.proofs.RangeLaws.{read-back}
+use Rattle.whole.proofs.SearchLaws.{holds}
 use Rattle.slots.specs.Units.{mostLevel}
 use Rattle.metres.proofs.AnswersLaws.{no-nan, ranged, refused-far, refused-nan, refused-outside, taken-in}
 use Rattle.metres.proofs.TakenLaws.{passes}
@@ -19,7 +20,7 @@ x s = s .args .metres
 
 -- what owning a double tells: the format holds it
 owned : (s : tie.Start) → T (fits binary64 (x s))
-owned s = subst T (sym (s .good .0 .1)) tt
+owned s = holds (s .good .0 .1)
 
 returns : tie.Need-returns
 returns c = refused-nan (c .before .args .most) (x (c .before)) (c .if1 .taken)

@@ -1,16 +1,13 @@
 -- `numbers::number_at` meets its contract. The loop's invariant: the number at `at` is what the rest of the reading gives; the weight and what was read are bounded.
 -- Assumes nothing.
-use Prim.Native.Nat.{ℕ, _≤_, _<_, _*_, _%_, _^_}
-use mathlib.Core.Path.{_≡_, refl, sym, ap, _∙_}
+use Prim.Native.Nat.{ℕ, _≤_, _<_, _*_, _%_}
+use mathlib.Core.Path.{_≡_, sym, ap, _∙_}
 use borrow.Author.Needs.{needs}
 use native.Mathlib.Omega.{arith}
 use Rattle.numbers.specs.Numbers.{numberFrom}
 use Rattle.numbers.proofs.NumbersLaws.{spent, ended, long, value, more, weightOf, weight-most, weight-next, group}
 use Rattle.numbers.proofs.number_at.Statement.{statement}
 use Rattle.numbers.proofs.number_at.Tie as tie
-use Rattle.numbers.proofs.number_at.Reads as reads
-use Rattle.numbers.proofs.number_at.Lts as lts
-use Rattle.numbers.proofs.wide.Reads as wide-reads
 
 abbrev Inv-loop : tie.InvT-loop
 Inv-loop file at value₀ weight₀ least₀ place₀ left₀ value weight least place left =

@@ -1,19 +1,15 @@
 -- `numbers::signed` meets its contract. Assumes nothing.
-use mathlib.Core.Path.{_≡_, sym, _∙_, subst}
-use Prim.Native.Nat.{ℕ, _/_, _%_}
+use Prim.Native.Nat.{_/_}
 use borrow.Author.Needs.{needs}
 use borrow.Author.Tests.{eq-eqb, ne-eqb}
 use native.Mathlib.Omega.{arith}
 use mir.Syntax.{w64}
-use mir.Val.{SFits, toZ}
 use mir.Facts.{toZ-ofZ, toZ-pos}
-use lib.IntN.{ℤ, pos, negsuc, _-ℤ_}
+use lib.IntN.{negsuc}
 use Rattle.numbers.specs.Numbers.{signedOf}
 use Rattle.numbers.proofs.NumbersLaws.{less-one}
 use Rattle.numbers.proofs.signed.Statement.{statement}
 use Rattle.numbers.proofs.signed.Tie as tie
-use Rattle.numbers.proofs.signed.Reads as reads
-use Rattle.numbers.proofs.signed.Lts as lts
 
 cast-half : tie.Need-cast-half
 cast-half c = search needs

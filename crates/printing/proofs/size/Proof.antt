@@ -1,6 +1,6 @@
 -- `size` meets its contract: below zero -1 - z is one less than the size. Assumes nothing.
 use mathlib.Core.Bool.{true}
-use mathlib.Core.Path.{_∙_, _≡_, ap, sym}
+use mathlib.Core.Path.{_≡_, ap}
 use Prim.Native.Nat.{_+_, suc}
 use native.Mathlib.Omega.{arith}
 use lib.Dec.{ltb→lt}
@@ -11,7 +11,7 @@ use mir.Facts.{fits-natAbs, toZ-ofZ}
 use mir.Syntax.{w64}
 use mir.Val.{SFits, ofZ, toZ}
 use Rattle.whole.proofs.LinearLaws.{#, from1, signed}
-use Rattle.whole.proofs.RangeLaws.{any, b-pos, fits, lt-bits, lt-no, lt-true, ranges, unsign-ok}
+use Rattle.whole.proofs.RangeLaws.{any, b-pos, fits, lt-no, lt-true, ranges, unsign-ok, negative-any}
 use Rattle.whole.proofs.SearchLaws.{holds}
 use Rattle.printing.proofs.size.Statement.{statement}
 use Rattle.printing.proofs.size.Tie as tie
@@ -25,7 +25,7 @@ less-one-size (pos n) h = let l = ltb→lt n 0 (holds h) in absurd (omega arith)
 less-one-size (negsuc m) h = rw (le-ltb (suc m) 1 (omega arith)) (omega arith)
 
 below : (c : tie.Then1) → ltZ (c .before .args .z) (pos 0) ≡ true
-below c = sym (lt-bits (c .before .fits .z) (fits (b-pos 0) tt)) ∙ c .if1 .taken
+below c = negative-any (c .before .fits .z) (c .if1 .taken)
 
 -- -1 - z fits, whatever z is
 less-one-fits : {z : ℤ} → SFits w64 z → SFits w64 (negsuc 0 -ℤ z)

@@ -8,10 +8,8 @@ use mir.Facts.{toZ-ofZ}
 use mir.Syntax.{w64}
 use mir.Val.{ofZ, toZ}
 use Rattle.whole.specs.Whole.{Abs}
-use Rattle.whole.proofs.RangeLaws.{read-back}
+use Rattle.whole.proofs.RangeLaws.{read-back, leaf, within}
 use Rattle.metres.specs.Metres.{metresOf, mostShown}
-use Rattle.metres.proofs.ShownLaws.{level-shown}
-use Rattle.report.proofs.ReportLaws.{interface-shown, thickness-shown}
 use Rattle.report.proofs.in_metres.Statement.{statement}
 use Rattle.report.proofs.in_metres.Tie as tie
 
@@ -23,19 +21,19 @@ back : (z : ℤ) → mag z < 2 ^ 63 → Abs mostShown z → Abs mostShown (toZ w
 back z h in-range = subst (Abs mostShown) (sym (read-back z h)) in-range
 
 metres-of-requires : tie.Need-metres-of-requires
-metres-of-requires c κs = back (c .before .args .heads .fresh) (c .struct-told .given .0 .1) (level-shown (c .before .pre .0 .of-fresh))
+metres-of-requires c κs = back (c .before .args .heads .fresh) (c .struct-told .given .0 .1) (within (leaf (c .before .pre .0 .of-fresh)) tt tt)
 
 metres-of-requires-2 : tie.Need-metres-of-requires-2
-metres-of-requires-2 c κs = back (c .before .before .before .args .heads .salt) (c .struct-told2 .given .1 .0 .1) (level-shown (c .before .before .before .pre .0 .of-salt))
+metres-of-requires-2 c κs = back (c .before .before .before .args .heads .salt) (c .struct-told2 .given .1 .0 .1) (within (leaf (c .before .before .before .pre .0 .of-salt)) tt tt)
 
 metres-of-requires-3 : tie.Need-metres-of-requires-3
-metres-of-requires-3 c κs = subst (Abs mostShown) (sym (toZ-ofZ (c .before .before .before .before .fits .interface))) (interface-shown (c .before .before .before .before .pre .1 .0))
+metres-of-requires-3 c κs = subst (Abs mostShown) (sym (toZ-ofZ (c .before .before .before .before .fits .interface))) (within (leaf (c .before .before .before .before .pre .1 .0)) tt tt)
 
 metres-of-requires-4 : tie.Need-metres-of-requires-4
-metres-of-requires-4 c κs = back (c .before .before .before .before .before .before .args .waters .fresh) (c .struct-told3 .given .0 .1) (thickness-shown (c .before .before .before .before .before .before .pre .1 .1 .of-fresh))
+metres-of-requires-4 c κs = back (c .before .before .before .before .before .before .args .waters .fresh) (c .struct-told3 .given .0 .1) (within (leaf (c .before .before .before .before .before .before .pre .1 .1 .of-fresh)) tt tt)
 
 metres-of-requires-5 : tie.Need-metres-of-requires-5
-metres-of-requires-5 c κs = back (c .before .before .before .before .before .before .before .before .args .waters .salt) (c .struct-told4 .given .1 .0 .1) (thickness-shown (c .before .before .before .before .before .before .before .before .pre .1 .1 .of-salt))
+metres-of-requires-5 c κs = back (c .before .before .before .before .before .before .before .before .args .waters .salt) (c .struct-told4 .given .1 .0 .1) (within (leaf (c .before .before .before .before .before .before .before .before .pre .1 .1 .of-salt)) tt tt)
 
 returns : tie.Need-returns
 returns c =

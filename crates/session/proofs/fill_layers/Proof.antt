@@ -6,9 +6,9 @@ use native.Mathlib.Omega.{arith}
 use lib.IntN.{ℤ}
 use lib.ListN.{length, length-drop, length-take}
 use borrow.Author.Needs.{needs}
+use Rattle.whole.specs.Lent.{over}
+use Rattle.whole.proofs.LentLaws.{over-rest}
 use Rattle.slices.specs.Slices.{Case, caseOf}
-use Rattle.casefile.specs.Runs.{over}
-use Rattle.casefile.proofs.RunsLaws.{over-rest}
 use Rattle.session.specs.Sessions.{layersOf}
 use Rattle.session.proofs.SessionLaws.{layers-length, layers-more}
 use Rattle.session.proofs.fill_layers.Statement.{statement}

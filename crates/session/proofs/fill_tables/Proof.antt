@@ -4,9 +4,9 @@ use mathlib.Core.Path.{_∙_, _≡_}
 use native.Mathlib.Omega.{arith}
 use lib.ListN.{length, length-drop, length-take}
 use borrow.Author.Needs.{needs}
+use Rattle.whole.specs.Lent.{over}
+use Rattle.whole.proofs.LentLaws.{over-rest}
 use Rattle.slices.specs.Slices.{caseOf}
-use Rattle.casefile.specs.Runs.{over}
-use Rattle.casefile.proofs.RunsLaws.{over-rest}
 use Rattle.session.specs.Sessions.{layersOf, tablesOf}
 use Rattle.session.proofs.SessionLaws.{layers-length}
 use Rattle.session.proofs.fill_tables.Statement.{statement}

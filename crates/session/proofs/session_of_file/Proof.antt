@@ -3,7 +3,7 @@ use mathlib.Core.Path.{_∙_, sym}
 use borrow.Author.Needs.{needs}
 use Rattle.casefile.specs.Reading.{Read, readingOf}
 use Rattle.session.specs.Sessions.{lentSlots, lentWidths}
-use Rattle.session.proofs.SessionLaws.{file-long, file-read, read-accepted, read-refused}
+use Rattle.session.proofs.SessionLaws.{file-long, file-read, read-unrefused, read-refused}
 use Rattle.session.proofs.session_of_file.Statement.{statement}
 use Rattle.session.proofs.session_of_file.Tie as tie
 
@@ -24,7 +24,7 @@ returns-3 : tie.Need-returns-3
 returns-3 c =
     let told = c .before .before .before .before .before .before .before .before .before .before .before .read-case .ensures in
     c .session-of-slices .ensures
-    ∙ read-accepted (readIn (c .before .before .before .before .before .before .before .before .before .before .before .before .before .before .before .before .before)) (c .before .before .before .before .before .before .before .before .before .before .before .read-case .result) (c .before .before .before .before .before .before .before .before .before .before .before .read-case .last .1 .0) (c .before .before .before .before .before .before .before .before .before .before .before .read-case .last .1 .1 .0) (c .before .before .before .before .before .before .before .before .before .before .before .read-case .last .1 .1 .1 .0) (told .0) (told .1 .0) (told .1 .1 .0) (told .1 .1 .1) (c .before .before .before .before .before .if2 .left)
+    ∙ read-unrefused (readIn (c .before .before .before .before .before .before .before .before .before .before .before .before .before .before .before .before .before)) (c .before .before .before .before .before .before .before .before .before .before .before .read-case .result) (c .before .before .before .before .before .before .before .before .before .before .before .read-case .last .1 .0) (c .before .before .before .before .before .before .before .before .before .before .before .read-case .last .1 .1 .0) (c .before .before .before .before .before .before .before .before .before .before .before .read-case .last .1 .1 .1 .0) (told .0) (told .1 .0) (told .1 .1 .0) (told .1 .1 .1) (c .before .before .before .before .before .if2 .left)
     ∙ sym (file-read (c .before .before .before .before .before .before .before .before .before .before .before .before .before .before .before .before .before .args .file .now) (c .before .before .before .before .before .before .before .before .before .before .before .before .before .before .before .if1 .left))
 
 pub session-of-file-spec : {M : Type 1} → statement M

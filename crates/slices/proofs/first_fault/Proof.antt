@@ -2,17 +2,18 @@
 use mathlib.Core.Path.{_≡_, sym, ap, ap₂, _∙_}
 use mathlib.Core.Bool.{Bool, not}
 use mathlib.Core.List.{List}
-use Prim.Native.Nat.{ℕ, _-_, _≤_}
+use Prim.Native.Nat.{ℕ, _*_, _-_, _≤_}
 use native.Mathlib.Omega.{arith}
 use lib.IntN.{ℤ}
 use lib.ListN.{length-drop}
 use Rattle.whole.specs.Search.{firstOf}
+use Rattle.whole.proofs.LentLaws.{rest-all}
 use Rattle.whole.proofs.SearchLaws.{first-start, first-more, first-found}
 use Rattle.grid.specs.declared.Grid.{Grid}
 use Rattle.grid.specs.Place.{blocksOf, topOf}
 use Rattle.slots.specs.Slots.{partOf}
+use Rattle.slots.specs.Units.{slotsEach}
 use Rattle.slots.specs.Rules.{slotsHold}
-use Rattle.slots.proofs.SlotsLaws.{part-all}
 use Rattle.slices.specs.Slices.{faultOf}
 use Rattle.slices.proofs.first_fault.Statement.{statement}
 use Rattle.slices.proofs.first_fault.Tie as tie
@@ -32,38 +33,20 @@ blocks-requires c κs = c .pre .0
 loop-holds : tie.Need-loop-holds Inv-loop μ-loop
 loop-holds c = (omega arith, first-start (faulty (c .before .args .g) (c .before .args .slots .now)))
 
-mul-at : tie.Need-mul-at Inv-loop μ-loop
-mul-at c = omega arith
-
-mul-slots-hold : tie.Need-mul-slots-hold Inv-loop μ-loop
-mul-slots-hold c = omega arith
-
-sub-slots-hold : tie.Need-sub-slots-hold Inv-loop μ-loop
-sub-slots-hold c = omega arith
-
-part-slots-hold-start : tie.Need-part-slots-hold-start Inv-loop μ-loop
-part-slots-hold-start c = omega arith
-
-part-slots-hold-end : tie.Need-part-slots-hold-end Inv-loop μ-loop
-part-slots-hold-end c = omega arith
-
 is-top-requires : tie.Need-is-top-requires Inv-loop μ-loop
 is-top-requires c κs = (c .before .before .before .before .pre .0, omega arith)
 
 slots-hold-requires : tie.Need-slots-hold-requires Inv-loop μ-loop
 slots-hold-requires c κs =
     let l = c .before .before .before in
-    rw (part-all (l .before .before .args .slots .now) (l .loop .block)) (simp length-drop (omega arith))
+    rw (rest-all (slotsEach * l .loop .block) (l .before .before .args .slots .now)) (simp length-drop (omega arith))
 
 -- what the call tells of the block
 told : (c : tie.After-slots-hold Inv-loop μ-loop) → faulty (c .before .before .before .before .before .before .args .g) (c .before .before .before .before .before .before .args .slots .now) (c .before .before .before .before .loop .block) ≡ not (c .slots-hold .result)
 told c =
     let l = c .before .before .before .before in
     let s = l .before .before in
-    ap not (sym (c .slots-hold .ensures ∙ ap₂ slotsHold (part-all (s .args .slots .now) (l .loop .block)) (c .before .is-top .ensures)))
-
-add-result : tie.Need-add-result Inv-loop μ-loop
-add-result c = omega arith
+    ap not (sym (c .slots-hold .ensures ∙ ap₂ slotsHold (rest-all (slotsEach * l .loop .block) (s .args .slots .now)) (c .before .is-top .ensures)))
 
 returns : tie.Need-returns Inv-loop μ-loop
 unfolding faultOf
@@ -71,12 +54,6 @@ returns c =
     let l = c .before .before .before .before .before in
     let s = l .before .before in
     sym (first-found (faulty (s .args .g) (s .args .slots .now)) (l .loop .block) _ (omega arith) (l .loop .inv .1) (told (c .before) ∙ c .if1 .taken))
-
-add-block : tie.Need-add-block Inv-loop μ-loop
-add-block c = omega arith
-
-loop-less : tie.Need-loop-less Inv-loop μ-loop
-loop-less c = omega arith
 
 loop-again : tie.Need-loop-again Inv-loop μ-loop
 loop-again c =
@@ -99,16 +76,16 @@ first-fault-spec =
     μ-loop
     blocks-requires
     loop-holds
-    mul-at
-    mul-slots-hold
-    sub-slots-hold
-    part-slots-hold-start
-    part-slots-hold-end
+    (λ c. omega arith)
+    (λ c. omega arith)
+    (λ c. omega arith)
+    (λ c. omega arith)
+    (λ c. omega arith)
     is-top-requires
     slots-hold-requires
-    add-result
+    (λ c. omega arith)
     returns
-    add-block
-    loop-less
+    (λ c. omega arith)
+    (λ c. omega arith)
     loop-again
     returns-2)

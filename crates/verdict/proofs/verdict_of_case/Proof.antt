@@ -1,16 +1,16 @@
 -- `verdict_of_case` meets its contract: both rows are filled with what the definition reads. Assumes nothing.
 use mathlib.Core.Path.{_∙_}
 use Prim.Native.Nat.{_*_, _≤_}
+use native.Mathlib.Nat.{le-refl}
 use native.Mathlib.Omega.{arith}
 use borrow.Author.Needs.{needs}
 use Rattle.grid.specs.Place.{blocksOf}
 use Rattle.slices.specs.Slices.{caseOf}
-use Rattle.books.specs.Blocks.{Slotted, Watered, watersOf}
+use Rattle.books.specs.Waters.{Slotted, Watered}
 use Rattle.books.specs.Rows.{pairOf}
-use Rattle.books.proofs.BlocksLaws.{slotted}
-use Rattle.books.proofs.RowsLaws.{filled-row}
+use Rattle.books.proofs.WatersLaws.{slotted, filled-watered}
 use Rattle.balance.specs.Balance.{balancesOf}
-use Rattle.balance.proofs.BalanceLaws.{filled-bounded}
+use Rattle.balance.proofs.BalanceLaws.{filled-bounded, filled-balanced}
 use Rattle.verdict.specs.Ruling.{verdictOf}
 use Rattle.verdict.proofs.RulingLaws.{verdict-same}
 use Rattle.verdict.proofs.verdict_of_case.Statement.{statement}
@@ -23,7 +23,7 @@ ready : (c : tie.Start) → Slotted (c .args .g) (c .args .slots .now)
 ready c = slotted (caseOf (c .args .g) (c .args .columns .now) (c .args .rows .now) (c .args .slots .now)) (c .pre .judged)
 
 watered : (c : tie.After-fill-waters) → Watered (c .before .before .args .g) (c .before .before .args .slots .now) (c .fill-waters .last .1 .1 .0)
-watered c = rw (c .fill-waters .ensures) (filled-row (blocksOf (c .before .before .args .g)) (watersOf (c .before .before .args .g) (c .before .before .args .slots .now)) _ (room (c .before .before)))
+watered c = filled-watered _ _ _ (ready (c .before .before)) (c .fill-waters .ensures) (le-refl 1024)
 
 fill-balances-requires : tie.Need-fill-balances-requires
 fill-balances-requires c κs = (c .before .before .before .before .before .pre, (watered (c .before .before .before), room (c .before .before .before .before .before)))
@@ -40,7 +40,7 @@ returns c =
     let k = caseOf (s .args .g) (s .args .columns .now) (s .args .rows .now) (s .args .slots .now) in
     c .verdict-of-rows .ensures
     ∙ verdict-same (s .args .g) (s .args .slots .now) (pairOf (c .before .before .before .before .fill-balances .last .1 .1 .1 .1 .1 .0)) (balancesOf k)
-    (λ i l. rw (c .before .before .before .before .fill-balances .ensures) (filled-row (blocksOf (s .args .g)) (balancesOf k) _ (room s) .each i l))
+    (filled-balanced k _ (s .pre .judged .counted) (c .before .before .before .before .fill-balances .ensures) (le-refl 1024) .each)
 
 pub verdict-of-case-spec : {M : Type 1} → statement M
 verdict-of-case-spec =

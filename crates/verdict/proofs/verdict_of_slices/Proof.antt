@@ -3,13 +3,13 @@ use borrow.Author.Needs.{needs}
 use Rattle.slices.specs.Slices.{caseOf}
 use Rattle.wellformed.specs.Limits.{checkedOf}
 use Rattle.wellformed.proofs.LimitsLaws.{checked-stands}
-use Rattle.verdict.specs.Ruling.{answerOf, verdictOf}
+use Rattle.verdict.specs.Ruling.{verdictAnswer, verdictOf}
 use Rattle.verdict.proofs.RulingLaws.{answered-judged, answered-refused}
 use Rattle.verdict.proofs.verdict_of_slices.Statement.{statement}
 use Rattle.verdict.proofs.verdict_of_slices.Tie as tie
 
 returns : tie.Need-returns
-unfolding answerOf
+unfolding verdictAnswer
 returns c =
     let s = c .before .before .before .args in
     let k = caseOf (s .g) (s .columns .now) (s .rows .now) (s .slots .now) in
@@ -21,7 +21,7 @@ verdict-of-case-requires c κs =
     checked-stands (caseOf (s .g) (s .columns .now) (s .rows .now) (s .slots .now)) (rw (c .before .before .check-slices .ensures) at (c .if1 .left))
 
 returns-2 : tie.Need-returns-2
-unfolding answerOf
+unfolding verdictAnswer
 returns-2 c =
     let s = c .before .before .before .before .args in
     let k = caseOf (s .g) (s .columns .now) (s .rows .now) (s .slots .now) in

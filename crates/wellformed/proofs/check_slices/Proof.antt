@@ -11,18 +11,18 @@ returns : tie.Need-returns
 returns c =
     let s = c .before .before .before .args in
     let k = caseOf (s .g) (s .columns .now) (s .rows .now) (s .slots .now) in
-    first-stays (shapeOf k ++ contentsOf k) (limitsOf k) (c .before .before .judge .result) (c .before .before .judge .ensures) (c .if1 .taken)
+    first-stays (shapeOf k ++ contentsOf k) (limitsOf k) (c .before .before .judge-ranges .result) (c .before .before .judge-ranges .ensures) (c .if1 .taken)
 
 judge-limits-requires : tie.Need-judge-limits-requires
 judge-limits-requires c κs =
     let s = c .before .before .before .args in
-    judged-stands (caseOf (s .g) (s .columns .now) (s .rows .now) (s .slots .now)) (rw (c .before .before .judge .ensures) at (c .if1 .left))
+    judged-stands (caseOf (s .g) (s .columns .now) (s .rows .now) (s .slots .now)) (rw (c .before .before .judge-ranges .ensures) at (c .if1 .left))
 
 returns-2 : tie.Need-returns-2
 returns-2 c =
     let s = c .before .before .before .before .args in
     let k = caseOf (s .g) (s .columns .now) (s .rows .now) (s .slots .now) in
-    first-goes-on (shapeOf k ++ contentsOf k) (limitsOf k) (c .before .before .before .judge .result) (c .before .before .before .judge .ensures) (c .judge-limits .result) (c .before .if1 .left) (c .judge-limits .ensures)
+    first-goes-on (shapeOf k ++ contentsOf k) (limitsOf k) (c .before .before .before .judge-ranges .result) (c .before .before .before .judge-ranges .ensures) (c .judge-limits .result) (c .before .if1 .left) (c .judge-limits .ensures)
 
 pub check-slices-spec : {M : Type 1} → statement M
 check-slices-spec = tie.close (tie.spec (λ c κs. search needs) returns judge-limits-requires returns-2)

@@ -8,12 +8,6 @@ use Rattle.whole.specs.Whole.{minℤ, maxℤ, clampOf}
 use Rattle.whole.proofs.clamp.Statement.{statement}
 use Rattle.whole.proofs.clamp.Tie as tie
 
-least-requires : tie.Need-least-requires
-least-requires c κs = search needs
-
-greatest-requires : tie.Need-greatest-requires
-greatest-requires c κs = search needs
-
 returns : tie.Need-returns
 unfolding clampOf
 returns c =
@@ -23,4 +17,4 @@ returns c =
     toZ-ofZ (sfits-of (c .greatest .ok)) ∙ c .greatest .ensures ∙ ap₂ maxℤ (toZ-ofZ (s .fits .low)) lesser
 
 pub clamp-spec : {M : Type 1} → statement M
-clamp-spec = tie.close (tie.spec least-requires greatest-requires returns)
+clamp-spec = tie.close (tie.spec (λ c κs. search needs) (λ c κs. search needs) returns)

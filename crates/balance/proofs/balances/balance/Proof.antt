@@ -4,7 +4,7 @@ use borrow.Author.Needs.{needs}
 use Rattle.whole.proofs.RangeLaws.{Bounds, b-eq, exact, fits, ranges}
 use Rattle.slices.specs.Slices.{caseOf}
 use Rattle.books.specs.Bookkeeping.{booksOf}
-use Rattle.books.proofs.TermsLaws.{own-boundary-in, own-pumped-in, own-recharge-in, own-storage-in}
+use Rattle.books.proofs.OwnLaws.{own-boundary-in, own-pumped-in, own-recharge-in, own-storage-in}
 use Rattle.balance.specs.Balance.{balanceIn}
 use Rattle.balance.proofs.BalanceLaws.{flows-in}
 use Rattle.balance.proofs.balances.balance.Statement.{statement}

@@ -5,8 +5,8 @@ use native.Mathlib.Omega.{arith}
 use lib.ListN.{length}
 use Rattle.grid.specs.Place.{blocksOf}
 use Rattle.slices.specs.Slices.{caseOf}
-use Rattle.books.specs.Rows.{filledOf, putOf}
-use Rattle.books.proofs.RowsLaws.{filled-more, filled-start}
+use Rattle.books.specs.Rows.{filledOf}
+use Rattle.books.proofs.RowsLaws.{filled-start, filled-turn}
 use Rattle.balance.specs.Balance.{balancesOf}
 use Rattle.balance.proofs.balances.fill_balances.Statement.{statement}
 use Rattle.balance.proofs.balances.fill_balances.Tie as tie
@@ -27,12 +27,11 @@ balances-of-requires c κs = (c .before .before .before .pre .0, (c .before .bef
 
 loop-again : tie.Need-loop-again Inv-loop μ-loop
 loop-again c =
-    let s = c .before .before .before .before .before .before .before .args in
     let l = c .before .before .before .before .before .loop in (
       omega arith,
       (
         c .before .put .kept .0 ∙ l .inv .1 .0,
-        c .before .put .ensures ∙ (λ i. putOf (l .inv .1 .1 i) (l .block) (c .before .before .before .balances-of .ensures i)) ∙ sym (filled-more (l .block) (balancesOf (caseOf (s .g) (s .columns .now) (s .rows .now) (s .slots .now))) (s .row .now)),
+        filled-turn (l .block) _ _ (l .inv .1 .1) (c .before .before .before .balances-of .ensures) (c .before .put .ensures),
       ),
     )
 

@@ -9,10 +9,11 @@ use Rattle.whole.proofs.SearchLaws.{holds}
 use Rattle.slices.specs.Slices.{caseOf}
 use Rattle.flow.specs.Litres.{mostFlow}
 use Rattle.wellformed.specs.Links.{liveOf}
+use Rattle.wellformed.proofs.LinksLaws.{live-inside}
 use Rattle.books.specs.Bookkeeping.{booksOf, broughtOf}
 use Rattle.books.specs.Links.{carriedOf}
-use Rattle.books.proofs.BlocksLaws.{slotted}
-use Rattle.books.proofs.CarriedLaws.{brought-dead, brought-live, brought-other, carried-in, far-inside}
+use Rattle.books.proofs.WatersLaws.{slotted}
+use Rattle.books.proofs.CarriedLaws.{brought-dead, brought-live, brought-other, carried-in}
 use Rattle.books.proofs.links.brought.Statement.{statement}
 use Rattle.books.proofs.links.brought.Tie as tie
 
@@ -23,7 +24,7 @@ counts-requires : tie.Need-counts-requires
 counts-requires c κs =
     let s = c .before .before in
     let k = caseOf (s .args .g) (s .args .columns .now) (s .args .rows .now) (s .args .slots .now) in
-    (slotted k (s .pre .0 .judged), (s .pre .1 .0, (far-inside k (s .pre .0) (s .args .fluid) (s .args .axis) (s .args .block) (s .pre .1 .1 .0) (holds (live (c .before) ∙ c .if1 .taken)), s .pre .1 .1 .1 .1)))
+    (slotted k (s .pre .0 .judged), (s .pre .1 .0, (live-inside (s .args .g) (s .args .slots .now) (s .args .axis) (s .args .block) (holds (live (c .before) ∙ c .if1 .taken)) (s .pre .0 .judged .counted) (s .pre .1 .1 .0), s .pre .1 .1 .1 .1)))
 
 carried-requires : tie.Need-carried-requires
 carried-requires c κs =

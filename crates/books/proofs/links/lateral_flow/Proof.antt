@@ -6,18 +6,18 @@ use lib.Dec.{T}
 use mir.Syntax.{w64}
 use mir.Val.{ofZ, toZ}
 use borrow.Author.Needs.{needs}
-use Rattle.whole.proofs.RangeLaws.{answer, high, low, read}
+use Rattle.whole.proofs.RangeLaws.{answer, read}
 use Rattle.whole.proofs.SearchLaws.{holds, true-is}
 use Rattle.grid.specs.Place.{blocksOf, placeOf, strideOf}
 use Rattle.slices.specs.Slices.{caseOf}
 use Rattle.flow.specs.Lateral.{lateralOf}
 use Rattle.wellformed.specs.Links.{liveOf}
 use Rattle.wellformed.specs.Widths.{faceAt}
-use Rattle.wellformed.proofs.LinksLaws.{live-high, live-low, live-next}
+use Rattle.wellformed.proofs.LinksLaws.{live-high, live-low, live-next, live-inside}
 use Rattle.wellformed.proofs.WidthsLaws.{face-in, onward, placed}
 use Rattle.books.specs.Links.{lateralAt, sideOf, tipBehindOf}
-use Rattle.books.proofs.BlocksLaws.{slotted}
-use Rattle.books.proofs.CarriedLaws.{far-inside, high-side-in, low-side-in, passes, tip-behind-in}
+use Rattle.books.proofs.WatersLaws.{slotted}
+use Rattle.books.proofs.CarriedLaws.{high-side-in, low-side-in, passes, tip-behind-in}
 use Rattle.books.proofs.links.lateral_flow.Statement.{statement}
 use Rattle.books.proofs.links.lateral_flow.Tie as tie
 
@@ -25,7 +25,7 @@ joined : (c : tie.Start) → T (liveOf (c .args .g) (c .args .slots .now) (c .ar
 joined c = holds (c .pre .1 .1 .1 .1 .1)
 
 far : (c : tie.Start) → c .args .block + strideOf (c .args .g) (c .args .axis) < blocksOf (c .args .g)
-far c = far-inside (caseOf (c .args .g) (c .args .columns .now) (c .args .rows .now) (c .args .slots .now)) (c .pre .0) (c .args .fluid) (c .args .axis) (c .args .block) (c .pre .1 .1 .0) (joined c)
+far c = live-inside (c .args .g) (c .args .slots .now) (c .args .axis) (c .args .block) (joined c) (c .pre .0 .judged .counted) (c .pre .1 .1 .0)
 
 side-requires : tie.Need-side-requires
 side-requires c κs =

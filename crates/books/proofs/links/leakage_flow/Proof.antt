@@ -13,21 +13,21 @@ use Rattle.grid.specs.Place.{blocksOf, placeOf, strideOf}
 use Rattle.grid.specs.Units.{above}
 use Rattle.slots.specs.Slots.{Ends, blockOf}
 use Rattle.slices.specs.Slices.{caseOf}
-use Rattle.block.specs.Fluids.{fresh, newHeads}
+use Rattle.block.specs.Fluids.{newHeads}
 use Rattle.block.specs.Geometry.{aquiferTopOf}
 use Rattle.block.proofs.BlockLaws.{aquifer-top-in}
-use Rattle.flow.specs.declared.leakage.Waters.{Waters}
+use Rattle.flow.specs.declared.leakage.LeakageSide.{LeakageSide}
 use Rattle.flow.specs.Leakage.{leakageOf}
 use Rattle.flow.specs.Litres.{overAreaOf}
 use Rattle.wellformed.specs.Links.{activeOf, liveOf}
 use Rattle.wellformed.specs.Widths.{Placed, areaAt}
-use Rattle.wellformed.proofs.LinksLaws.{live-high, live-low, reach}
+use Rattle.wellformed.proofs.LinksLaws.{live-high, live-low, reach, live-inside}
 use Rattle.wellformed.proofs.WidthsLaws.{area-in, placed}
-use Rattle.books.specs.Blocks.{Slotted}
-use Rattle.books.specs.Links.{leakageAt, watersAt}
+use Rattle.books.specs.Waters.{Slotted}
+use Rattle.books.specs.Links.{leakageAt, leakageSideAt}
 use Rattle.books.specs.Rows.{pairOf}
-use Rattle.books.proofs.BlocksLaws.{active-ends, slotted}
-use Rattle.books.proofs.CarriedLaws.{far-inside, leakage-conductance-in, waters-in}
+use Rattle.books.proofs.WatersLaws.{active-ends, slotted}
+use Rattle.books.proofs.CarriedLaws.{leakage-conductance-in, waters-in}
 use Rattle.books.proofs.links.leakage_flow.Statement.{statement}
 use Rattle.books.proofs.links.leakage_flow.Tie as tie
 
@@ -36,7 +36,7 @@ joined c = holds (c .pre .1 .1 .1 .1)
 
 -- the block above is inside
 far : (c : tie.Start) → c .args .block + strideOf (c .args .g) above < blocksOf (c .args .g)
-far c = far-inside (caseOf (c .args .g) (c .args .columns .now) (c .args .rows .now) (c .args .slots .now)) (c .pre .0) fresh above (c .args .block) (c .pre .1 .1 .0) (joined c)
+far c = live-inside (c .args .g) (c .args .slots .now) above (c .args .block) (joined c) (c .pre .0 .judged .counted) (c .pre .1 .1 .0)
 
 ready : (c : tie.Start) → Slotted (c .args .g) (c .args .slots .now)
 ready c = slotted (caseOf (c .args .g) (c .args .columns .now) (c .args .rows .now) (c .args .slots .now)) (c .pre .0 .judged)
@@ -79,10 +79,10 @@ aquifer-top-requires : tie.Need-aquifer-top-requires
 aquifer-top-requires c κs = rw (c .before .before .before .before .before .before .before .before .before .load .ensures) (ends (c .before .before .before .before .before .before .before .before .before .before))
 
 -- what leakage sees of the two blocks
-below-told : (c : tie.After-pair) → _≡_ {A = Waters} (record { heads = c .before .new-heads .result; thickness = c .pair .result }) (watersAt (c .before .before .before .before .before .before .before .args .g) (c .before .before .before .before .before .before .before .args .slots .now) (c .before .before .before .before .before .before .before .args .block))
+below-told : (c : tie.After-pair) → _≡_ {A = LeakageSide} (record { heads = c .before .new-heads .result; thickness = c .pair .result }) (leakageSideAt (c .before .before .before .before .before .before .before .args .g) (c .before .before .before .before .before .before .before .args .slots .now) (c .before .before .before .before .before .before .before .args .block))
 below-told c = λ i. record { heads = (c .before .new-heads .ensures ∙ ap newHeads (c .before .before .before .before .before .before .load .ensures)) i; thickness = (c .pair .ensures ∙ c .before .before .before .before .before .before .before .pre .1 .0 .each (c .before .before .before .before .before .before .before .args .block) (c .before .before .before .before .before .before .before .pre .1 .1 .0)) i }
 
-above-told : (c : tie.After-pair2) → _≡_ {A = Waters} (record { heads = c .before .new-heads2 .result; thickness = c .pair2 .result }) (watersAt (c .before .before .before .before .before .before .before .before .before .before .args .g) (c .before .before .before .before .before .before .before .before .before .before .args .slots .now) (c .before .before .before .before .before .before .before .before .before .before .args .block + strideOf (c .before .before .before .before .before .before .before .before .before .before .args .g) above))
+above-told : (c : tie.After-pair2) → _≡_ {A = LeakageSide} (record { heads = c .before .new-heads2 .result; thickness = c .pair2 .result }) (leakageSideAt (c .before .before .before .before .before .before .before .before .before .before .args .g) (c .before .before .before .before .before .before .before .before .before .before .args .slots .now) (c .before .before .before .before .before .before .before .before .before .before .args .block + strideOf (c .before .before .before .before .before .before .before .before .before .before .args .g) above))
 above-told c =
     let s = c .before .before .before .before .before .before .before .before .before .before in
     λ i. record {

@@ -1,12 +1,11 @@
 -- `side` meets its contract, field by field. Assumes nothing.
 use mathlib.Core.Path.{_∙_, ap}
 use borrow.Author.Needs.{needs}
-use types.Run.{load}
 use Rattle.whole.proofs.RangeLaws.{answer}
 use Rattle.block.specs.Fluids.{inFluid, newHeads}
 use Rattle.block.specs.Geometry.{kOf}
 use Rattle.books.specs.Links.{sideOf}
-use Rattle.books.proofs.BlocksLaws.{active-ends}
+use Rattle.books.proofs.WatersLaws.{active-ends}
 use Rattle.books.proofs.links.side.Statement.{statement}
 use Rattle.books.proofs.links.side.Tie as tie
 

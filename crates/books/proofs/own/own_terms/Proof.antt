@@ -20,10 +20,10 @@ use Rattle.block.specs.Wells.{lengthsOf, sharesOf}
 use Rattle.flow.specs.Boundary.{boundaryOf, rechargeOf}
 use Rattle.wellformed.specs.Widths.{areaAt}
 use Rattle.wellformed.proofs.WidthsLaws.{placed}
-use Rattle.books.specs.Blocks.{Slotted, levelsAt, watersOf}
-use Rattle.books.specs.Terms.{ownOf, pumpedAt, storageAt}
-use Rattle.books.proofs.BlocksLaws.{active-ends, lengths-ready, levels-on-waters, slotted, waters-on, waters-thick}
-use Rattle.books.proofs.TermsLaws.{over-in}
+use Rattle.books.specs.Waters.{Slotted, levelsAt, watersOf}
+use Rattle.books.specs.Own.{ownOf, pumpedAt, storageAt}
+use Rattle.books.proofs.WatersLaws.{active-ends, lengths-ready, levels-on-waters, slotted, waters-on, waters-thick}
+use Rattle.books.proofs.OwnLaws.{over-in}
 use Rattle.books.proofs.own.own_terms.Statement.{statement}
 use Rattle.books.proofs.own.own_terms.Tie as tie
 

@@ -4,9 +4,9 @@ use Prim.Native.Nat.{_-_, _≤_}
 use native.Mathlib.Omega.{arith}
 use lib.ListN.{length}
 use Rattle.grid.specs.Place.{blocksOf}
-use Rattle.books.specs.Blocks.{watersOf}
-use Rattle.books.specs.Rows.{filledOf, putOf}
-use Rattle.books.proofs.RowsLaws.{filled-more, filled-start}
+use Rattle.books.specs.Waters.{watersOf}
+use Rattle.books.specs.Rows.{filledOf}
+use Rattle.books.proofs.RowsLaws.{filled-start, filled-turn}
 use Rattle.books.proofs.waters.fill_waters.Statement.{statement}
 use Rattle.books.proofs.waters.fill_waters.Tie as tie
 
@@ -24,17 +24,13 @@ loop-holds c =
 waters-of-requires : tie.Need-waters-of-requires Inv-loop μ-loop
 waters-of-requires c κs = (c .before .before .before .pre .0, omega arith)
 
-put-requires : tie.Need-put-requires Inv-loop μ-loop
-put-requires c κs = omega arith
-
 loop-again : tie.Need-loop-again Inv-loop μ-loop
 loop-again c =
-    let s = c .before .before .before .before .before .before .before .args in
     let l = c .before .before .before .before .before .loop in (
       omega arith,
       (
         c .before .put .kept .0 ∙ l .inv .1 .0,
-        c .before .put .ensures ∙ (λ i. putOf (l .inv .1 .1 i) (l .block) (c .before .before .before .waters-of .ensures i)) ∙ sym (filled-more (l .block) (watersOf (s .g) (s .slots .now)) (s .row .now)),
+        filled-turn (l .block) _ _ (l .inv .1 .1) (c .before .before .before .waters-of .ensures) (c .before .put .ensures),
       ),
     )
 
@@ -52,7 +48,7 @@ fill-waters-spec =
     (λ c κs. c .pre .0 .counted)
     loop-holds
     waters-of-requires
-    put-requires
+    (λ c κs. omega arith)
     (λ c. omega arith)
     (λ c. omega arith)
     loop-again

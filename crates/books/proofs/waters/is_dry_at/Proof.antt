@@ -5,8 +5,8 @@ use borrow.Author.Needs.{needs}
 use Rattle.slots.specs.Slots.{blockOf}
 use Rattle.block.specs.Wells.{isDry, lengthsOf}
 use Rattle.wellformed.specs.Links.{activeOf}
-use Rattle.books.specs.Blocks.{dryAt, newLevels, watersOf}
-use Rattle.books.proofs.BlocksLaws.{active-ends, lengths-are, lengths-in, lengths-ready}
+use Rattle.books.specs.Waters.{dryAt, newLevels, watersOf}
+use Rattle.books.proofs.WatersLaws.{active-ends, lengths-are, lengths-in, lengths-ready}
 use Rattle.books.proofs.waters.is_dry_at.Statement.{statement}
 use Rattle.books.proofs.waters.is_dry_at.Tie as tie
 

@@ -7,8 +7,8 @@ use Rattle.block.specs.Fluids.{newHeads}
 use Rattle.block.specs.Geometry.{levelsOf, thicknessesOf}
 use Rattle.block.proofs.FluidLaws.{new-heads-in}
 use Rattle.wellformed.specs.Links.{activeOf}
-use Rattle.books.specs.Blocks.{levelsAt, newLevels}
-use Rattle.books.proofs.BlocksLaws.{active-ends, new-levelled, waters-off, waters-on}
+use Rattle.books.specs.Waters.{levelsAt, newLevels}
+use Rattle.books.proofs.WatersLaws.{active-ends, new-levelled, waters-off, waters-on}
 use Rattle.books.proofs.waters.waters_of.Statement.{statement}
 use Rattle.books.proofs.waters.waters_of.Tie as tie
 

@@ -1,7 +1,7 @@
 -- `row` meets its contract. Assumes nothing.
 use mathlib.Core.List.{[], _∷_}
 use Rattle.whole.proofs.RangeLaws.{read-back}
-use Rattle.budget.specs.Tables.{rowOf}
+use Rattle.budget.specs.Table.{rowOf}
 use Rattle.budget.proofs.table.row.Statement.{statement}
 use Rattle.budget.proofs.table.row.Tie as tie
 

@@ -8,11 +8,11 @@ use Rattle.casefile.proofs.fields.ends_of.Tie as tie
 
 returns : tie.Need-returns
 unfolding endsOf
-returns c = rw (c .before .enum-told .given .1) (c .head-range .ensures)
+returns c = rw (c .before .enum-told .given .1) (c .record-range .ensures)
 
 returns-2 : tie.Need-returns-2
 unfolding endsOf
-returns-2 c = rw (c .before .enum-told2 .given .1) (c .head-range2 .ensures)
+returns-2 c = rw (c .before .enum-told2 .given .1) (c .record-range2 .ensures)
 
 returns-3 : tie.Need-returns-3
 unfolding endsOf

@@ -25,7 +25,7 @@ returns-3 c =
     let ends = c .before .before .before .before .ends-of .ensures in
     rw (sym (c .before .before .before .before .before .before .before .before .read-number .ensures) ∙ value .1)
     (c .judged-in .ensures
-    ∙ (λ i. judgedIn (answer (c .before .before .meant .ok) (c .before .before .meant .ensures ∙ ap (λ l. meantOf l (value .0 .0)) (answer (c .before .before .before .struct-told .given .0 .1) (ap (λ r. r .lower) ends))) i) (value .0 .1 .0) (ends i) (c .before .refusal-of .ensures i)))
+    ∙ (λ i. judgedIn (answer (c .before .before .meant .ok) (c .before .before .meant .ensures ∙ ap (λ l. meantOf l (value .0 .0)) (answer (c .before .before .before .struct-told .given .0 .1) (ap (λ r. r .lower) ends))) i) (value .0 .1 .0) (ends i) (c .before .part-refusal .ensures i)))
 
 pub sent-at-spec : {M : Type 1} → statement M
 sent-at-spec =

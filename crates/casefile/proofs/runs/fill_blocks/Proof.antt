@@ -4,10 +4,11 @@ use Prim.Native.Nat.{_*_, _+_, _-_, _≤_}
 use native.Mathlib.Omega.{arith}
 use lib.ListN.{drop, length, length-drop, take}
 use borrow.Rule.Slice.PartMut.{putMid, same-len-mid}
+use Rattle.whole.specs.Lent.{over}
+use Rattle.whole.proofs.LentLaws.{rest-all}
 use Rattle.grid.specs.Place.{blocksOf}
-use Rattle.casefile.specs.Runs.{blockFrom, blocksFrom, over}
+use Rattle.casefile.specs.Runs.{blockFrom, blocksFrom}
 use Rattle.casefile.proofs.FilledLaws.{block-next, block-put}
-use Rattle.casefile.proofs.RunsLaws.{rest-all}
 use Rattle.casefile.proofs.runs.fill_blocks.Statement.{statement}
 use Rattle.casefile.proofs.runs.fill_blocks.Tie as tie
 

@@ -1,19 +1,19 @@
 -- `fill_from` meets its contract. The invariant: the whole run is what the rest of it gives after the numbers passed, and past them all is as it was.
 -- Assumes nothing.
-use mathlib.Core.List.{List, []}
+use mathlib.Core.List.{[]}
 use mathlib.Core.Path.{_∙_, _≡_, ap, refl, sym}
-use Prim.Native.Nat.{_+_, _-_, _≤_, ℕ}
+use Prim.Native.Nat.{_+_, _-_, _≤_}
 use native.Mathlib.Omega.{arith}
-use lib.IntN.{ℤ}
 use lib.ListN.{drop, length, length-set, take}
 use lib.Seq.{length-take-le}
 use borrow.Author.Needs.{needs, scaled-fits}
 use mir.Facts.{toZ-ofZ}
 use mir.Syntax.{w64}
 use mir.Val.{SFits}
-use Rattle.casefile.specs.declared.fields.Part.{Part}
-use Rattle.casefile.specs.Runs.{Filled, fillFrom, over}
-use Rattle.casefile.proofs.RunsLaws.{fill-none, fill-refused, fill-value, over-front, stored-drop, stored-take}
+use Rattle.whole.specs.Lent.{over}
+use Rattle.whole.proofs.LentLaws.{over-front, stored-drop, stored-take}
+use Rattle.casefile.specs.Runs.{Filled, fillFrom}
+use Rattle.casefile.proofs.RunsLaws.{fill-none, fill-refused, fill-value}
 use Rattle.casefile.proofs.runs.fill_from.Statement.{statement}
 use Rattle.casefile.proofs.runs.fill_from.Tie as tie
 

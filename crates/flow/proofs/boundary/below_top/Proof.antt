@@ -11,11 +11,11 @@ returns : tie.Need-returns
 unfolding belowTop
 returns c =
     let aquifer = c .before .before .aquifer-top in
-    rw (sym (c .before .before .before .before .has-table .ensures) ∙ c .before .before .before .if1 .taken) (ap₂ ltZ (read (c .before .before .before .before .before .pre .new-fresh) tt) (answer (aquifer .ok) (aquifer .ensures)))
+    rw (sym (c .before .before .before .before .has-water-table .ensures) ∙ c .before .before .before .if1 .taken) (ap₂ ltZ (read (c .before .before .before .before .before .pre .new-fresh) tt) (answer (aquifer .ok) (aquifer .ensures)))
 
 returns-2 : tie.Need-returns-2
 unfolding belowTop
-returns-2 c = rw (sym (c .before .has-table .ensures) ∙ c .if1 .left)
+returns-2 c = rw (sym (c .before .has-water-table .ensures) ∙ c .if1 .left)
 
 pub below-top-spec : {M : Type 1} → statement M
 below-top-spec = tie.close (tie.spec (λ c κs. search needs) (λ c κs. search needs) returns returns-2)

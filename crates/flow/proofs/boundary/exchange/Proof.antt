@@ -3,7 +3,7 @@ use mathlib.Core.Path.{_∙_, _≡_, ap₂}
 use mir.Syntax.{w64}
 use mir.Val.{ofZ, toZ}
 use borrow.Author.Needs.{needs}
-use Rattle.whole.proofs.RangeLaws.{Bounds, answer, b-eq, exact, fits, high, low, ranges, read, within}
+use Rattle.whole.proofs.RangeLaws.{Bounds, answer, b-eq, exact, fits, ranges, read, within}
 use Rattle.block.specs.Fluids.{newHeads}
 use Rattle.block.specs.Geometry.{aquiferTopOf}
 use Rattle.block.proofs.BlockLaws.{aquifer-top-in}

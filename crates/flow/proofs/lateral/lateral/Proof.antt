@@ -4,7 +4,7 @@ use lib.IntN.{_-ℤ_}
 use mir.Syntax.{w64}
 use mir.Val.{ofZ, toZ}
 use borrow.Author.Needs.{needs}
-use Rattle.whole.proofs.RangeLaws.{answer, exact, fits, high, leaf, low, ranges, read, within}
+use Rattle.whole.proofs.RangeLaws.{answer, exact, fits, leaf, ranges, read, within}
 use Rattle.flow.specs.declared.lateral.Side.{Side}
 use Rattle.flow.specs.Lateral.{SideIn, conductanceOf, faceConductanceOf, faceKOf, faceThicknessOf, lateralOf}
 use Rattle.flow.specs.Litres.{leavingOf, litresOf}

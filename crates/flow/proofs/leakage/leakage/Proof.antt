@@ -6,7 +6,7 @@ use mir.Val.{ofZ, toZ}
 use borrow.Author.Needs.{needs}
 use Rattle.whole.proofs.RangeLaws.{answer, leaf, ranges, read, within}
 use Rattle.grid.specs.declared.Grid.{Grid}
-use Rattle.flow.specs.declared.leakage.Waters.{Waters}
+use Rattle.flow.specs.declared.leakage.LeakageSide.{LeakageSide}
 use Rattle.flow.specs.Leakage.{differenceOf, leakageOf, lowermostOf, uppermostOf}
 use Rattle.flow.specs.Litres.{leavingOf, litresOf}
 use Rattle.flow.proofs.LeakageLaws.{difference-in, lowermost-is, uppermost-is}
@@ -20,7 +20,7 @@ difference-requires c κs =
     (pre .0, (pre .1 .1 .0 .heads, (pre .1 .1 .1 .0 .heads, (rw (c .before .uppermost .ensures) (uppermost-is (s .args .lower .thickness)), (rw (c .lowermost .ensures) (lowermost-is (s .args .upper .thickness)), within (search (ranges, leaf (pre .1 .1 .1 .1)) depth 20) tt tt)))))
 
 -- the difference, of the fluids named
-abbrev apartOf : Grid → Waters → Waters → ℤ → ℤ
+abbrev apartOf : Grid → LeakageSide → LeakageSide → ℤ → ℤ
 apartOf g lower upper level = differenceOf g (lower .heads) (upper .heads) (uppermostOf (lower .thickness)) (lowermostOf (upper .thickness)) level
 
 difference-told : (c : tie.After-difference) → toZ w64 (ofZ w64 (c .difference .result)) ≡ apartOf (c .before .before .before .args .g) (c .before .before .before .args .lower) (c .before .before .before .args .upper) (c .before .before .before .args .level)

@@ -42,15 +42,6 @@ ends-here c =
     let p = c .before .before in
     previous-told (p .before .args .g) (p .before .args .axis) (p .before .args .block) (p .place-of .result) (c .has-previous .result) (p .place-of .ensures) (c .has-previous .ensures)
 
-place-of-requires : tie.Need-place-of-requires
-place-of-requires c κs = search needs
-
-has-next-requires : tie.Need-has-next-requires
-has-next-requires c κs = search needs
-
-stride-requires : tie.Need-stride-requires
-stride-requires c κs = search needs
-
 add-t9 : tie.Need-add-t9
 add-t9 c =
     let h = c .before .before in
@@ -68,12 +59,6 @@ returns-2 c =
     let h = c .before in
     let s = h .before .before .before in
     leads-out (s .args .g) (s .args .axis) (s .args .block) (s .args .on) (h .before .if1 .taken) (leads-on h ∙ c .if2 .left)
-
-has-previous-requires : tie.Need-has-previous-requires
-has-previous-requires c κs = search needs
-
-stride-requires-2 : tie.Need-stride-requires-2
-stride-requires-2 c κs = search needs
 
 sub-t12 : tie.Need-sub-t12
 sub-t12 c =
@@ -97,14 +82,14 @@ pub across-spec : {M : Type 1} → statement M
 across-spec =
     tie.close
     (tie.spec
-    place-of-requires
-    has-next-requires
-    stride-requires
+    (λ c κs. search needs)
+    (λ c κs. search needs)
+    (λ c κs. search needs)
     add-t9
     returns
     returns-2
-    has-previous-requires
-    stride-requires-2
+    (λ c κs. search needs)
+    (λ c κs. search needs)
     sub-t12
     returns-3
     returns-4)

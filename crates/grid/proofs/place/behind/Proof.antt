@@ -18,18 +18,6 @@ module _ (g : Grid) (d i : ℕ) (low : Bool) (r : Neighbour) where
   unfolding behindOf
   high-end s f h e = rw (h, ← f, e)
 
-across-requires : tie.Need-across-requires
-across-requires c κs = search needs
-
-stride-requires : tie.Need-stride-requires
-stride-requires c κs = search needs
-
-add-across : tie.Need-add-across
-add-across c = search needs
-
-across-requires-2 : tie.Need-across-requires-2
-across-requires-2 c κs = search needs
-
 returns : tie.Need-returns
 returns c =
     let s = c .before .before in
@@ -43,4 +31,4 @@ returns-2 c =
 pub behind-spec : {M : Type 1} → statement M
 behind-spec =
     tie.close
-    (tie.spec across-requires stride-requires add-across across-requires-2 returns returns-2)
+    (tie.spec (λ c κs. search needs) (λ c κs. search needs) (λ c. search needs) (λ c κs. search needs) returns returns-2)

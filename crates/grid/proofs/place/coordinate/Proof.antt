@@ -4,14 +4,8 @@ use Rattle.grid.proofs.PlaceLaws.{above-axis}
 use Rattle.grid.proofs.place.coordinate.Statement.{statement}
 use Rattle.grid.proofs.place.coordinate.Tie as tie
 
-returns : tie.Need-returns
-returns c = search needs
-
-returns-2 : tie.Need-returns-2
-returns-2 c = search needs
-
 returns-3 : tie.Need-returns-3
 returns-3 c = rw (above-axis (c .before .args .axis) (c .match .rest .0 .1) (c .match .rest .1) .1)
 
 pub coordinate-spec : {M : Type 1} → statement M
-coordinate-spec = tie.close (tie.spec returns returns-2 returns-3)
+coordinate-spec = tie.close (tie.spec (λ c. search needs) (λ c. search needs) returns-3)

@@ -8,15 +8,6 @@ use Rattle.grid.specs.Place.{hasNext}
 use Rattle.grid.proofs.place.has_next.Statement.{statement}
 use Rattle.grid.proofs.place.has_next.Tie as tie
 
-coordinate-requires : tie.Need-coordinate-requires
-coordinate-requires c κs = search needs
-
-extent-requires : tie.Need-extent-requires
-extent-requires c κs = search needs
-
-add-result : tie.Need-add-result
-add-result c = search needs
-
 returns : tie.Need-returns
 unfolding hasNext
 returns c = rw (c .before .before .coordinate .ensures, c .before .extent .ensures)
@@ -29,4 +20,4 @@ returns-2 c =
 
 pub has-next-spec : {M : Type 1} → statement M
 has-next-spec =
-    tie.close (tie.spec coordinate-requires extent-requires add-result returns returns-2)
+    tie.close (tie.spec (λ c κs. search needs) (λ c κs. search needs) (λ c. search needs) returns returns-2)

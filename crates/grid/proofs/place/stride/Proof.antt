@@ -9,14 +9,8 @@ use Rattle.grid.proofs.place.stride.Tie as tie
 mul-result : tie.Need-mul-result
 mul-result c = omega (arith, mul-le-mul (c .before .before .pre .columns-most) (c .before .before .pre .rows-most))
 
-returns : tie.Need-returns
-returns c = search needs
-
-returns-2 : tie.Need-returns-2
-returns-2 c = search needs
-
 returns-3 : tie.Need-returns-3
 returns-3 c = rw (above-axis (c .before .before .args .axis) (c .before .match .rest .0 .1) (c .before .match .rest .1) .1)
 
 pub stride-spec : {M : Type 1} → statement M
-stride-spec = tie.close (tie.spec mul-result returns returns-2 returns-3)
+stride-spec = tie.close (tie.spec mul-result (λ c. search needs) (λ c. search needs) returns-3)

@@ -15,16 +15,16 @@ module _ (s : tie.Start) (n : ℕ) (e : n ≡ ticksIn (ofBits binary64 (s .args 
   small = rw e (size-most (s .args .bits) (s .pre))
 
 cast-size : tie.Need-cast-size
-cast-size c = sized (small (c .before) _ (c .size-of .ensures))
+cast-size c = sized (small (c .before) _ (c .ticks-in .ensures))
 
 sub-result : tie.Need-sub-result
-sub-result c = turned-fits (small (c .before .before) _ (c .before .size-of .ensures))
+sub-result c = turned-fits (small (c .before .before) _ (c .before .ticks-in .ensures))
 
 returns : tie.Need-returns
-returns c = turned-is (small (c .before .before) _ (c .before .size-of .ensures)) ∙ ap (λ n. negℤ (pos n)) (c .before .size-of .ensures) ∙ sym (tick-below (c .before .before .args .bits) (c .before .before .pre) (c .if1 .taken))
+returns c = turned-is (small (c .before .before) _ (c .before .ticks-in .ensures)) ∙ ap (λ n. negℤ (pos n)) (c .before .ticks-in .ensures) ∙ sym (tick-below (c .before .before .args .bits) (c .before .before .pre) (c .if1 .taken))
 
 returns-2 : tie.Need-returns-2
-returns-2 c = as-signed (small (c .before .before) _ (c .before .size-of .ensures)) ∙ ap pos (c .before .size-of .ensures) ∙ sym (tick-above (c .before .before .args .bits) (c .before .before .pre) (c .if1 .left))
+returns-2 c = as-signed (small (c .before .before) _ (c .before .ticks-in .ensures)) ∙ ap pos (c .before .ticks-in .ensures) ∙ sym (tick-above (c .before .before .args .bits) (c .before .before .pre) (c .if1 .left))
 
 pub tick-of-spec : {M : Type 1} → statement M
 tick-of-spec = tie.close (tie.spec (λ c κs. search needs) cast-size sub-result returns returns-2)

@@ -27,18 +27,6 @@ abbrev μ-loop : tie.MeasureT-loop
 loop-holds : tie.Need-loop-holds Inv-loop μ-loop
 loop-holds c = (omega arith, every-start (within (c .args .part .now)))
 
-mul-value : tie.Need-mul-value Inv-loop μ-loop
-mul-value c = omega arith
-
-shared-slice-copy-out-value : tie.Need-shared-slice-copy-out-value Inv-loop μ-loop
-shared-slice-copy-out-value c = omega arith
-
-range-of-requires : tie.Need-range-of-requires Inv-loop μ-loop
-range-of-requires c κs = tt
-
-in-range-requires : tie.Need-in-range-requires Inv-loop μ-loop
-in-range-requires c κs = tt
-
 -- what the call tells of the slot
 told : (c : tie.After-in-range Inv-loop μ-loop) → within (c .before .before .before .before .before .args .part .now) (c .before .before .before .before .loop .slot) ≡ c .in-range .result
 told c = sym (c .in-range .ensures ∙ ap₂ inRange (c .before .range-of .ensures) (read-back (getD (c .before .before .before .before .before .args .part .now) (c .before .before .before .before .loop .slot) (pos 0)) (c .before .before .value .given)))
@@ -48,12 +36,6 @@ unfolding endsHold
 returns c =
     let l = c .before .before .before .before .before in
     sym (every-fails (within (l .before .args .part .now)) (l .loop .slot) 16 (omega arith) (told (c .before) ∙ not-true (c .before .in-range .result) (c .if1 .taken)))
-
-add-slot : tie.Need-add-slot Inv-loop μ-loop
-add-slot c = omega arith
-
-loop-less : tie.Need-loop-less Inv-loop μ-loop
-loop-less c = omega arith
 
 loop-again : tie.Need-loop-again Inv-loop μ-loop
 loop-again c =
@@ -74,12 +56,12 @@ ends-hold-spec =
     Inv-loop
     μ-loop
     loop-holds
-    mul-value
-    shared-slice-copy-out-value
-    range-of-requires
-    in-range-requires
+    (λ c. omega arith)
+    (λ c. omega arith)
+    (λ c κs. tt)
+    (λ c κs. tt)
     returns
-    add-slot
-    loop-less
+    (λ c. omega arith)
+    (λ c. omega arith)
     loop-again
     returns-2)

@@ -8,12 +8,6 @@ use Rattle.slots.specs.Ranges.{ranges, rangeOf}
 use Rattle.slots.proofs.ranges.range_of.Statement.{statement}
 use Rattle.slots.proofs.ranges.range_of.Tie as tie
 
-mul-result : tie.Need-mul-result
-mul-result c = search needs
-
-array-copy-out-result : tie.Need-array-copy-out-result
-array-copy-out-result c = search needs
-
 returns : tie.Need-returns
 unfolding rangeOf
 returns c = refl
@@ -23,4 +17,4 @@ unfolding rangeOf
 returns-2 c = sym (List·getD-eq-default ranges (between (pos 0) (pos 0)) (c .if1 .left))
 
 pub range-of-spec : {M : Type 1} → statement M
-range-of-spec = tie.close (tie.spec mul-result array-copy-out-result returns returns-2)
+range-of-spec = tie.close (tie.spec (λ c. search needs) (λ c. search needs) returns returns-2)

@@ -6,12 +6,6 @@ use Rattle.whole.specs.Whole.{isZero}
 use Rattle.slots.proofs.rules.both_zero.Statement.{statement}
 use Rattle.slots.proofs.rules.both_zero.Tie as tie
 
-is-zero-requires : tie.Need-is-zero-requires
-is-zero-requires c κs = search needs
-
-is-zero-requires-2 : tie.Need-is-zero-requires-2
-is-zero-requires-2 c κs = search needs
-
 first : (c : tie.After-is-zero) → isZero (c .before .args .a) ≡ c .is-zero .result
 first c = sym (c .is-zero .ensures ∙ ap isZero (toZ-ofZ (c .before .fits .a)))
 
@@ -24,4 +18,4 @@ returns-2 : tie.Need-returns-2
 returns-2 c = rw (first (c .before) ∙ c .if1 .left)
 
 pub both-zero-spec : {M : Type 1} → statement M
-both-zero-spec = tie.close (tie.spec is-zero-requires is-zero-requires-2 returns returns-2)
+both-zero-spec = tie.close (tie.spec (λ c κs. search needs) (λ c κs. search needs) returns returns-2)

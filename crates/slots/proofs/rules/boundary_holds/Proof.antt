@@ -12,12 +12,6 @@ use Rattle.slots.proofs.rules.boundary_holds.Tie as tie
 three : {a b c a′ b′ c′ : ℤ} → a ≡ a′ → b ≡ b′ → c ≡ c′ → openHolds a b c ≡ openHolds a′ b′ c′
 three p q r = λ i. openHolds (p i) (q i) (r i)
 
-is-open-requires : tie.Need-is-open-requires
-is-open-requires c κs = search needs
-
-open-holds-requires : tie.Need-open-holds-requires
-open-holds-requires c κs = search needs
-
 returns : tie.Need-returns
 unfolding boundaryHolds
 returns c =
@@ -30,9 +24,6 @@ returns-2 : tie.Need-returns-2
 unfolding boundaryHolds
 returns-2 c = rw (sym (c .before .before .is-open .ensures) ∙ c .before .if1 .taken, c .if2 .left)
 
-both-zero-requires : tie.Need-both-zero-requires
-both-zero-requires c κs = search needs
-
 returns-3 : tie.Need-returns-3
 unfolding boundaryHolds
 returns-3 c =
@@ -43,4 +34,4 @@ returns-3 c =
 pub boundary-holds-spec : {M : Type 1} → statement M
 boundary-holds-spec =
     tie.close
-    (tie.spec is-open-requires open-holds-requires returns returns-2 both-zero-requires returns-3)
+    (tie.spec (λ c κs. search needs) (λ c κs. search needs) returns returns-2 (λ c κs. search needs) returns-3)

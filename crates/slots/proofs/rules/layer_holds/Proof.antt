@@ -7,12 +7,6 @@ use Rattle.slots.specs.Rules.{layerHolds}
 use Rattle.slots.proofs.rules.layer_holds.Statement.{statement}
 use Rattle.slots.proofs.rules.layer_holds.Tie as tie
 
-is-zero-requires : tie.Need-is-zero-requires
-is-zero-requires c κs = search needs
-
-is-zero-requires-2 : tie.Need-is-zero-requires-2
-is-zero-requires-2 c κs = search needs
-
 returns : tie.Need-returns
 unfolding layerHolds
 returns c = rw (c .before .before .if1 .taken) (c .is-zero .ensures ∙ ap isZero (read (c .before .before .before .pre .leakance) tt))
@@ -22,4 +16,4 @@ unfolding layerHolds
 returns-2 c = rw (c .before .before .if1 .left) (c .is-zero2 .ensures ∙ ap isZero (read (c .before .before .before .pre .recharge) tt))
 
 pub layer-holds-spec : {M : Type 1} → statement M
-layer-holds-spec = tie.close (tie.spec is-zero-requires is-zero-requires-2 returns returns-2)
+layer-holds-spec = tie.close (tie.spec (λ c κs. search needs) (λ c κs. search needs) returns returns-2)

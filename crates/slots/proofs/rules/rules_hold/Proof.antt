@@ -4,15 +4,6 @@ use Rattle.slots.specs.Rules.{rulesHold}
 use Rattle.slots.proofs.rules.rules_hold.Statement.{statement}
 use Rattle.slots.proofs.rules.rules_hold.Tie as tie
 
-screens-hold-requires : tie.Need-screens-hold-requires
-screens-hold-requires c κs = search needs
-
-layer-holds-requires : tie.Need-layer-holds-requires
-layer-holds-requires c κs = search needs
-
-boundary-holds-requires : tie.Need-boundary-holds-requires
-boundary-holds-requires c κs = search needs
-
 returns : tie.Need-returns
 unfolding rulesHold
 returns c =
@@ -33,9 +24,9 @@ pub rules-hold-spec : {M : Type 1} → statement M
 rules-hold-spec =
     tie.close
     (tie.spec
-    screens-hold-requires
-    layer-holds-requires
-    boundary-holds-requires
+    (λ c κs. search needs)
+    (λ c κs. search needs)
+    (λ c κs. search needs)
     returns
     returns-2
     returns-3)

@@ -15,12 +15,6 @@ unpumped c = sym (c .is-zero .ensures ∙ ap isZero (read (c .before .before .pr
 four : {a b c d a′ b′ c′ d′ : ℤ} → a ≡ a′ → b ≡ b′ → c ≡ c′ → d ≡ d′ → screenWithin a b c d ≡ screenWithin a′ b′ c′ d′
 four p q r s = λ i. screenWithin (p i) (q i) (r i) (s i)
 
-is-zero-requires : tie.Need-is-zero-requires
-is-zero-requires c κs = search needs
-
-both-zero-requires : tie.Need-both-zero-requires
-both-zero-requires c κs = search needs
-
 returns : tie.Need-returns
 unfolding screensHold
 returns c =
@@ -30,9 +24,6 @@ returns c =
 
 add-screen-within : tie.Need-add-screen-within
 add-screen-within c = fits (search ranges depth 20) tt
-
-screen-within-requires : tie.Need-screen-within-requires
-screen-within-requires c κs = search needs
 
 returns-2 : tie.Need-returns-2
 unfolding screensHold
@@ -46,9 +37,9 @@ pub screens-hold-spec : {M : Type 1} → statement M
 screens-hold-spec =
     tie.close
     (tie.spec
-    is-zero-requires
-    both-zero-requires
+    (λ c κs. search needs)
+    (λ c κs. search needs)
     returns
     add-screen-within
-    screen-within-requires
+    (λ c κs. search needs)
     returns-2)

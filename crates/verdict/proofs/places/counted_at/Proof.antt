@@ -1,7 +1,7 @@
 -- `counted_at` meets its contract: each code asks its own test. Assumes nothing.
 use borrow.Author.Needs.{needs}
 use borrow.Author.Tests.{ne-eqb}
-use Rattle.books.proofs.BlocksLaws.{sound}
+use Rattle.books.proofs.WatersLaws.{sound}
 use Rattle.verdict.specs.Places.{countedAt}
 use Rattle.verdict.proofs.places.counted_at.Statement.{statement}
 use Rattle.verdict.proofs.places.counted_at.Tie as tie

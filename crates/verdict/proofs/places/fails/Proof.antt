@@ -7,7 +7,7 @@ use borrow.Author.Needs.{needs}
 use Rattle.whole.proofs.RangeLaws.{answer, read}
 use Rattle.block.specs.Fluids.{inFluid}
 use Rattle.books.specs.Rows.{pairOf}
-use Rattle.books.proofs.BlocksLaws.{sound}
+use Rattle.books.proofs.WatersLaws.{sound}
 use Rattle.balance.proofs.BalanceLaws.{pair-in}
 use Rattle.verdict.specs.Places.{failsAt, freeAt, sizeOf}
 use Rattle.verdict.proofs.places.fails.Statement.{statement}

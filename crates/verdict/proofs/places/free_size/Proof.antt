@@ -8,7 +8,7 @@ use Rattle.whole.proofs.RangeLaws.{answer}
 use Rattle.grid.specs.Place.{blocksOf}
 use Rattle.block.specs.Fluids.{inFluid}
 use Rattle.books.specs.Rows.{pairOf}
-use Rattle.books.proofs.BlocksLaws.{sound}
+use Rattle.books.proofs.WatersLaws.{sound}
 use Rattle.balance.proofs.BalanceLaws.{pair-in}
 use Rattle.verdict.specs.Places.{freeAt, freeSizeOf, sizeOf}
 use Rattle.verdict.proofs.PlacesLaws.{block-below, paired}

@@ -13,7 +13,7 @@ use Rattle.slots.specs.Slots.{Ends, blockOf}
 use Rattle.block.specs.Fluids.{inFluid, newHeads, oldHeads}
 use Rattle.block.proofs.FluidLaws.{in-fluid-in, new-heads-in, old-heads-in}
 use Rattle.wellformed.specs.Links.{activeOf}
-use Rattle.books.specs.Terms.{fixedOf}
+use Rattle.books.specs.Own.{fixedOf}
 use Rattle.verdict.specs.Places.{movedAt}
 use Rattle.verdict.proofs.places.has_moved.Statement.{statement}
 use Rattle.verdict.proofs.places.has_moved.Tie as tie

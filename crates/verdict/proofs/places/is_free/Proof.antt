@@ -4,7 +4,7 @@ use mathlib.Core.Path.{_∙_, _≡_, ap, sym}
 use borrow.Author.Needs.{needs}
 use Rattle.whole.proofs.SearchLaws.{holds}
 use Rattle.wellformed.specs.Links.{activeOf}
-use Rattle.books.specs.Terms.{fixedOf}
+use Rattle.books.specs.Own.{fixedOf}
 use Rattle.verdict.specs.Places.{freeAt}
 use Rattle.verdict.proofs.places.is_free.Statement.{statement}
 use Rattle.verdict.proofs.places.is_free.Tie as tie

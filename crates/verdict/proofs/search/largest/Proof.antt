@@ -7,7 +7,6 @@ use mir.Val.{toZ}
 use borrow.Author.Needs.{needs}
 use Rattle.whole.specs.Search.{mostOf}
 use Rattle.whole.specs.Whole.{maxℤ}
-use Rattle.whole.proofs.LinearLaws.{sizes}
 use Rattle.whole.proofs.RangeLaws.{answer}
 use Rattle.whole.proofs.SearchLaws.{most-more, most-start}
 use Rattle.books.specs.Rows.{pairOf}

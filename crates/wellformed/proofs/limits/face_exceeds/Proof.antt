@@ -6,14 +6,13 @@ use lib.Dec.{T}
 use borrow.Author.Needs.{needs}
 use Rattle.whole.proofs.SearchLaws.{holds}
 use Rattle.grid.specs.Place.{blocksOf, placeOf, strideOf}
-use Rattle.grid.proofs.PlaceLaws.{next-inside}
 use Rattle.slots.specs.Slots.{blockOf}
 use Rattle.slices.specs.Slices.{caseOf}
 use Rattle.wellformed.specs.Limits.{eitherExceeds, faceExceeds}
 use Rattle.wellformed.specs.Links.{liveOf}
 use Rattle.wellformed.specs.Widths.{faceAt}
 use Rattle.wellformed.proofs.LimitsLaws.{conducts}
-use Rattle.wellformed.proofs.LinksLaws.{live-next, reach}
+use Rattle.wellformed.proofs.LinksLaws.{live-next, reach, live-inside}
 use Rattle.wellformed.proofs.WidthsLaws.{onward, placed}
 use Rattle.wellformed.proofs.limits.face_exceeds.Statement.{statement}
 use Rattle.wellformed.proofs.limits.face_exceeds.Tie as tie
@@ -28,7 +27,7 @@ joined c = holds (live (c .before) ∙ c .if1 .taken)
 across : (c : tie.After-stride) → c .before .before .before .before .args .block + strideOf (c .before .before .before .before .args .g) (c .before .before .before .before .args .axis) < blocksOf (c .before .before .before .before .args .g)
 across c =
     let s = c .before .before .before .before in
-    next-inside (s .args .g) (s .pre .0 .counted) (s .args .axis) (s .args .block) (s .pre .1 .0) (live-next (s .args .g) (s .args .slots .now) (s .args .axis) (s .args .block) (joined (c .before .before)))
+    live-inside (s .args .g) (s .args .slots .now) (s .args .axis) (s .args .block) (joined (c .before .before)) (s .pre .0 .counted) (s .pre .1 .0)
 
 add-load : tie.Need-add-load
 add-load c = omega (arith, across c, c .stride .ensures, c .before .before .before .before .pre .0 .counted .blocks-most)

@@ -9,12 +9,11 @@ use borrow.Author.Needs.{needs}
 use Rattle.whole.proofs.RangeLaws.{answer, read}
 use Rattle.whole.proofs.SearchLaws.{holds}
 use Rattle.grid.specs.Place.{blocksOf, strideOf}
-use Rattle.grid.proofs.PlaceLaws.{next-inside}
 use Rattle.slots.specs.Slots.{Ends, blockOf}
 use Rattle.block.specs.Geometry.{aquiferTopOf}
 use Rattle.wellformed.specs.Limits.{overlaps}
 use Rattle.wellformed.specs.Links.{liveOf}
-use Rattle.wellformed.proofs.LinksLaws.{live-high, live-low, live-next, reach}
+use Rattle.wellformed.proofs.LinksLaws.{live-high, live-low, reach, live-inside}
 use Rattle.wellformed.proofs.limits.overlaps_above.Statement.{statement}
 use Rattle.wellformed.proofs.limits.overlaps_above.Tie as tie
 
@@ -25,7 +24,7 @@ live c = sym (c .is-live .ensures)
 above-inside : (c : tie.After-stride) → c .before .before .before .before .args .block + strideOf (c .before .before .before .before .args .g) 2 < blocksOf (c .before .before .before .before .args .g)
 above-inside c =
     let s = c .before .before .before .before in
-    next-inside (s .args .g) (s .pre .0 .counted) 2 (s .args .block) (s .pre .1) (live-next (s .args .g) (s .args .slots .now) 2 (s .args .block) (holds (live (c .before .before) ∙ c .before .if1 .taken)))
+    live-inside (s .args .g) (s .args .slots .now) 2 (s .args .block) (holds (live (c .before .before) ∙ c .before .if1 .taken)) (s .pre .0 .counted) (s .pre .1)
 
 add-load : tie.Need-add-load
 add-load c = omega (arith, above-inside c, c .stride .ensures, c .before .before .before .before .pre .0 .counted .blocks-most)

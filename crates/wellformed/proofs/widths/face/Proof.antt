@@ -2,7 +2,7 @@
 use mathlib.Core.Path.{_≡_}
 use lib.IntN.{ℤ}
 use borrow.Author.Needs.{needs}
-use Rattle.whole.proofs.RangeLaws.{high, low, read-back}
+use Rattle.whole.proofs.RangeLaws.{read-back}
 use Rattle.whole.proofs.SearchLaws.{follows}
 use Rattle.flow.specs.declared.lateral.Face.{Face}
 use Rattle.wellformed.proofs.widths.face.Statement.{statement}

@@ -27,15 +27,6 @@ abbrev μ-loop : tie.MeasureT-loop
 loop-holds : tie.Need-loop-holds Inv-loop μ-loop
 loop-holds c = (omega arith, every-start (within (c .args .range) (c .args .values .now)))
 
-mul-value : tie.Need-mul-value Inv-loop μ-loop
-mul-value c = omega arith
-
-shared-slice-copy-out-value : tie.Need-shared-slice-copy-out-value Inv-loop μ-loop
-shared-slice-copy-out-value c = omega arith
-
-in-range-requires : tie.Need-in-range-requires Inv-loop μ-loop
-in-range-requires c κs = tt
-
 -- what the call tells of the value
 told : (c : tie.After-in-range Inv-loop μ-loop) → within (c .before .before .before .before .args .range) (c .before .before .before .before .args .values .now) (c .before .before .before .loop .k) ≡ c .in-range .result
 told c = sym (c .in-range .ensures ∙ ap (inRange (c .before .before .before .before .args .range)) (read-back (getD (c .before .before .before .before .args .values .now) (c .before .before .before .loop .k) (pos 0)) (c .before .value .given)))
@@ -45,12 +36,6 @@ unfolding allWithin
 returns c =
     let l = c .before .before .before .before in
     sym (every-fails (within (l .before .args .range) (l .before .args .values .now)) (l .loop .k) (l .before .args .count) (omega arith) (told (c .before) ∙ not-true (c .before .in-range .result) (c .if1 .taken)))
-
-add-k : tie.Need-add-k Inv-loop μ-loop
-add-k c = omega arith
-
-loop-less : tie.Need-loop-less Inv-loop μ-loop
-loop-less c = omega arith
 
 loop-again : tie.Need-loop-again Inv-loop μ-loop
 loop-again c =
@@ -71,11 +56,11 @@ all-within-spec =
     Inv-loop
     μ-loop
     loop-holds
-    mul-value
-    shared-slice-copy-out-value
-    in-range-requires
+    (λ c. omega arith)
+    (λ c. omega arith)
+    (λ c κs. tt)
     returns
-    add-k
-    loop-less
+    (λ c. omega arith)
+    (λ c. omega arith)
     loop-again
     returns-2)

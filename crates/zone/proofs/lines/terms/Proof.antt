@@ -9,9 +9,9 @@ use Rattle.grid.specs.Place.{blocksOf, placeOf}
 use Rattle.slots.specs.Units.{mostPumpage}
 use Rattle.slices.specs.Slices.{Case, caseOf}
 use Rattle.wellformed.specs.Limits.{WellFormed}
-use Rattle.books.specs.Blocks.{Watered}
+use Rattle.books.specs.Waters.{Watered}
 use Rattle.books.specs.Bookkeeping.{booksOf}
-use Rattle.books.proofs.BlocksLaws.{slotted}
+use Rattle.books.proofs.WatersLaws.{slotted}
 use Rattle.balance.specs.Balance.{balanceIn}
 use Rattle.balance.proofs.BalanceLaws.{row-bounded}
 use Rattle.zone.specs.Holdings.{ownIn, settledOf}

@@ -1,0 +1,294 @@
+//! Caydubeesh for Rust: a check and a water budget for island aquifers in which fresh water floats on salt water. The functions are those of the proved
+//! crate `client` behind slices and structs; their rules are those of the client's document 01.
+//!
+//! A tick is 1/4,096 m; levels and heads are in ticks. Flows, pumpage, the tolerance and the lines of a table are in litres a day. A case is a [`Record`],
+//! the widths of its columns and of its rows in metres, and [`SLOTS`] numbers to a block:
+//!
+//! | slot | number | range |
+//! |---|---|---|
+//! | 0 | K, mm/day | 1 to 1,000,000; 0 is inactive, and then all sixteen are 0 |
+//! | 1 | base, ticks | ±4,194,304 |
+//! | 2 | thickness, ticks | 1 to 4,194,304 |
+//! | 3 | porosity, per mille | 1 to 1,000 |
+//! | 4 | leakance to the block above, 10⁻⁶/day | 0 to 1,000,000; 0 in the top layer |
+//! | 5 | recharge, µm/day | 0 to 1,000,000; 0 below the top layer |
+//! | 6 | pumpage, litres a day, positive is taken out | ±1,073,741,824 |
+//! | 7, 8 | screen bottom, screen top, ticks | base ≤ bottom < top ≤ base + thickness; both 0 if pumpage is 0 |
+//! | 9 | boundary kind | 0 none, 1 river, 2 sea, 3 fixed fresh, 4 fixed salt, 5 both fixed; 1 and 2 in the top layer only |
+//! | 10 | river stage or sea floor, ticks | ±4,194,304, a sea floor not above 0; 0 for other kinds |
+//! | 11 | boundary leakance, 10⁻⁶/day | 1 to 1,000,000; 0 for other kinds |
+//! | 12, 13 | old fresh head, old salt head, ticks | ±4,194,304 |
+//! | 14, 15 | new fresh head, new salt head, ticks | ±4,194,304 |
+//!
+//! Blocks are counted from 1, by layer, then row, then column; layer 1 is the deepest.
+//!
+//! Any numbers and any lengths may come in: what is out of range or too short is refused, and a refusal changes nothing that was lent.
+//!
+//! ```
+//! // Two blocks of fresh water. The heads of the first are fixed; a well takes 150 litres a day from the second.
+//! let record = caydubeesh::Record { columns: 2, rows: 1, layers: 1, delta: 40, flag: 0, step: 30, tolerance: 5 };
+//! let slots = [
+//!     10_000, -204_800, 245_760, 200, 0, 0, 0, 0, 0, 5, 0, 0, 8_192, 0, 8_192, 0,
+//!     10_000, -204_800, 245_760, 200, 0, 0, 150, -4_096, 4_096, 0, 0, 0, 8_191, 0, 8_191, 0,
+//! ];
+//! let verdict = caydubeesh::verdict(&record, &[100, 100], &[100], &slots)?;
+//! assert_eq!((verdict.code, verdict.largest), (0, 4));
+//! # Ok::<(), caydubeesh::Refusal>(())
+//! ```
+
+#![deny(missing_docs)]
+#![deny(unsafe_code)]
+
+#[allow(unsafe_code)]
+mod raw;
+
+use std::error::Error;
+use std::fmt;
+
+/// Slots of a block.
+pub const SLOTS: usize = 16;
+
+/// The most columns, and the most rows.
+pub const WIDTHS: usize = 64;
+
+/// The most blocks.
+pub const BLOCKS: usize = 512;
+
+/// The first seven numbers of a case.
+#[derive(Clone, Copy, Debug, PartialEq, Eq)]
+pub struct Record {
+    /// Columns, 1 to 64.
+    pub columns: i64,
+    /// Rows, 1 to 64.
+    pub rows: i64,
+    /// Layers, 1 to 8, and at most 512 blocks in all.
+    pub layers: i64,
+    /// δ, the weight of fresh water over the difference of both weights, 1 to 100.
+    pub delta: i64,
+    /// The water-table flag, 0 or 1.
+    pub flag: i64,
+    /// The time step in days, 1 to 36,525.
+    pub step: i64,
+    /// The tolerance in litres a day, 0 to 1,000,000,000.
+    pub tolerance: i64,
+}
+
+impl Record {
+    fn numbers(&self) -> [i64; 7] {
+        [self.columns, self.rows, self.layers, self.delta, self.flag, self.step, self.tolerance]
+    }
+}
+
+/// Why there is no answer.
+#[derive(Clone, Copy, Debug, PartialEq, Eq)]
+pub struct Refusal {
+    /// The number of the refusal, 1 to 14.
+    pub number: u64,
+    /// The block that it names, counted from 1; for 14 the number asked for; 0 where it names none.
+    pub block: usize,
+}
+
+impl Refusal {
+    /// When this number is given, in the words of document 01. 8 is shortened to what can come here, and 12 has the clause about ticks added.
+    pub fn words(&self) -> &'static str {
+        match self.number {
+            1 => "the file ends where a byte is still needed",
+            2 => "a number is longer than its shortest form, or a fifth byte has its high bit set",
+            3 => "a count or the block total is out of range",
+            4 => "δ, flag, step or tolerance is out of range",
+            5 => "a width is out of range",
+            6 => "a slot is out of range",
+            7 => "a lent slice is too short",
+            8 => "bytes follow the last block",
+            9 => "an active block's top lies above the base of the block directly above it, both active",
+            10 => "a conductance of either fluid exceeds 268,435,456, lateral ones worked out with the greater aquifer thickness of the two blocks",
+            11 => "a mark is neither 0 nor 1",
+            12 => {
+                "a double is no number, infinite, or its tick outside ±4,194,304, or above 0 for a sea floor; or a tick to be shown has 2⁵³ or more \
+                 without sign"
+            }
+            13 => "a table is asked for with a dry well",
+            14 => "a report names no active block",
+            _ => "no refusal has this number",
+        }
+    }
+}
+
+impl fmt::Display for Refusal {
+    fn fmt(&self, f: &mut fmt::Formatter<'_>) -> fmt::Result {
+        write!(f, "refused {} {}: {}", self.number, self.block, self.words())
+    }
+}
+
+impl Error for Refusal {}
+
+/// The verdict on the new heads of a case.
+#[derive(Clone, Copy, Debug, PartialEq, Eq)]
+pub struct Verdict {
+    /// 0 accepted; 21 a fixed head moved; 22 a dry well; 23 or 24 a balance beyond the tolerance, in fresh or in salt water.
+    pub code: i64,
+    /// The first block concerned, counted from 1; 0 if accepted.
+    pub block: usize,
+    /// How many places fail.
+    pub count: usize,
+    /// The largest balance without sign among free heads, litres a day; 0 for 21, 22, or with no free place.
+    pub largest: i64,
+}
+
+/// The lines of a zone's water account in one fluid, litres a day. They close: storage + error = edge_in - edge_out + converted + wells + recharge +
+/// boundary + supply.
+#[derive(Clone, Copy, Debug, PartialEq, Eq)]
+pub struct Lines {
+    /// What the zone's blocks store.
+    pub storage: i64,
+    /// What comes in through the zone's edge, never negative.
+    pub edge_in: i64,
+    /// What goes out through the zone's edge, never negative.
+    pub edge_out: i64,
+    /// What the fluid gains inside the zone by leakage that changes fluid.
+    pub converted: i64,
+    /// What wells bring, negative where pumped.
+    pub wells: i64,
+    /// What recharge brings.
+    pub recharge: i64,
+    /// What rivers and seas bring.
+    pub boundary: i64,
+    /// What fixed heads bring.
+    pub supply: i64,
+    /// The sum of the balances of free heads.
+    pub error: i64,
+}
+
+impl Lines {
+    fn of(numbers: [i64; 9]) -> Lines {
+        let [storage, edge_in, edge_out, converted, wells, recharge, boundary, supply, error] = numbers;
+        Lines { storage, edge_in, edge_out, converted, wells, recharge, boundary, supply, error }
+    }
+}
+
+impl fmt::Display for Lines {
+    /// The nine lines in their order, with a blank between two.
+    fn fmt(&self, f: &mut fmt::Formatter<'_>) -> fmt::Result {
+        let Lines { storage, edge_in, edge_out, converted, wells, recharge, boundary, supply, error } = self;
+        write!(f, "{storage} {edge_in} {edge_out} {converted} {wells} {recharge} {boundary} {supply} {error}")
+    }
+}
+
+/// The water account of a zone.
+#[derive(Clone, Copy, Debug, PartialEq, Eq)]
+pub struct Table {
+    /// The lines of fresh water.
+    pub fresh: Lines,
+    /// The lines of salt water.
+    pub salt: Lines,
+}
+
+/// The report of one block in metres, exact, from its new heads.
+#[derive(Clone, Copy, Debug, PartialEq)]
+pub struct Report {
+    /// Fresh head.
+    pub fresh_head: f64,
+    /// Salt head.
+    pub salt_head: f64,
+    /// Interface, ζ = (1 + δ) salt head - δ fresh head; it may lie outside the aquifer.
+    pub interface: f64,
+    /// Thickness of the fresh water.
+    pub fresh_thickness: f64,
+    /// Thickness of the salt water.
+    pub salt_thickness: f64,
+}
+
+fn answer<T>(number: u64, block: usize, answer: T) -> Result<T, Refusal> {
+    match number {
+        0 => Ok(answer),
+        _ => Err(Refusal { number, block }),
+    }
+}
+
+/// Judges a case. Refused with the first of 3, 7, 4, 5, 6, 9, 10 that applies.
+pub fn check(record: &Record, columns: &[i64], rows: &[i64], slots: &[i64]) -> Result<(), Refusal> {
+    let mut block = 0;
+    let number = raw::check(&record.numbers(), columns, rows, slots, &mut block);
+    answer(number, block, ())
+}
+
+/// The verdict on the new heads of a case. Refused as [`check`] refuses.
+pub fn verdict(record: &Record, columns: &[i64], rows: &[i64], slots: &[i64]) -> Result<Verdict, Refusal> {
+    let (mut numbers, mut block) = ([0; 4], 0);
+    let number = raw::verdict(&record.numbers(), columns, rows, slots, &mut numbers, &mut block);
+    let [code, first, count, largest] = numbers;
+    answer(number, block, Verdict { code, block: first as usize, count: count as usize, largest })
+}
+
+/// The water account of a zone: `marks` has a 1 for each block in it and a 0 for each other; all 1 for the whole grid. Refused as [`check`] refuses, with 7
+/// for short marks too, then with 11 for another mark, then with 13 for a dry well anywhere in the case.
+pub fn zone_table(record: &Record, columns: &[i64], rows: &[i64], slots: &[i64], marks: &[i64]) -> Result<Table, Refusal> {
+    let (mut lines, mut block) = ([0; 18], 0);
+    let number = raw::zone_table(&record.numbers(), columns, rows, slots, marks, &mut lines, &mut block);
+    let fresh = Lines::of(std::array::from_fn(|line| lines[line]));
+    let salt = Lines::of(std::array::from_fn(|line| lines[9 + line]));
+    answer(number, block, Table { fresh, salt })
+}
+
+/// The report of one block by its number, counted from 1. Refused as [`check`] refuses, and then with 14, which names the number asked for.
+pub fn report(record: &Record, columns: &[i64], rows: &[i64], slots: &[i64], number: usize) -> Result<Report, Refusal> {
+    let (mut metres, mut block) = ([0.0; 5], 0);
+    let refused = raw::report(&record.numbers(), columns, rows, slots, number, &mut metres, &mut block);
+    let [fresh_head, salt_head, interface, fresh_thickness, salt_thickness] = metres;
+    answer(refused, block, Report { fresh_head, salt_head, interface, fresh_thickness, salt_thickness })
+}
+
+/// Reads a case file over the front of widths and slots, and gives its record. Refused with one of 1 to 10; room beyond what is needed is not touched.
+/// [`Case::read`] lends room enough for any file.
+pub fn read(file: &[u8], columns: &mut [i64], rows: &mut [i64], slots: &mut [i64]) -> Result<Record, Refusal> {
+    let (mut numbers, mut block) = ([0; 7], 0);
+    let number = raw::read(file, &mut numbers, columns, rows, slots, &mut block);
+    let [columns, rows, layers, delta, flag, step, tolerance] = numbers;
+    answer(number, block, Record { columns, rows, layers, delta, flag, step, tolerance })
+}
+
+/// The tick nearest to a level in metres, halves to the even one. Refused with 12 for what is no number, infinite, or outside ±4,194,304 ticks.
+pub fn tick(metres: f64) -> Result<i64, Refusal> {
+    let mut tick = 0;
+    let number = raw::tick(metres, &mut tick);
+    answer(number, 0, tick)
+}
+
+/// The same of a sea floor, whose tick is not above 0.
+pub fn floor_tick(metres: f64) -> Result<i64, Refusal> {
+    let mut tick = 0;
+    let number = raw::floor_tick(metres, &mut tick);
+    answer(number, 0, tick)
+}
+
+/// A tick in metres, exactly. Refused with 12 for a tick of 2⁵³ or more without sign.
+pub fn metres(tick: i64) -> Result<f64, Refusal> {
+    let mut metres = 0.0;
+    let number = raw::metres(tick, &mut metres);
+    answer(number, 0, metres)
+}
+
+/// A case in memory of its own.
+#[derive(Clone, Debug, PartialEq, Eq)]
+pub struct Case {
+    /// The first seven numbers.
+    pub record: Record,
+    /// The width of each column in metres.
+    pub columns: Vec<i64>,
+    /// The width of each row in metres.
+    pub rows: Vec<i64>,
+    /// [`SLOTS`] numbers to a block.
+    pub slots: Vec<i64>,
+}
+
+impl Case {
+    /// Reads a case file. Refused as [`read`] refuses, but never with 7.
+    pub fn read(file: &[u8]) -> Result<Case, Refusal> {
+        let (mut columns, mut rows, mut slots) = (vec![0; WIDTHS], vec![0; WIDTHS], vec![0; SLOTS * BLOCKS]);
+        let record = read(file, &mut columns, &mut rows, &mut slots)?;
+        columns.truncate(record.columns as usize);
+        rows.truncate(record.rows as usize);
+        slots.truncate(SLOTS * columns.len() * rows.len() * record.layers as usize);
+        Ok(Case { record, columns, rows, slots })
+    }
+}

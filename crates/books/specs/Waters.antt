@@ -1,0 +1,57 @@
+-- The waters of a case's blocks (document 01, "One block"), in ticks.
+use mathlib.Core.Bool.{Bool, _&&_, cond}
+use mathlib.Core.List.{List}
+use Prim.Native.Nat.{_*_, _+_, _<_, _≤_, ℕ}
+use lib.Dec.{T}
+use lib.IntN.{pos, ℤ}
+use lib.ListN.{length}
+use Rattle.grid.specs.declared.Grid.{Grid}
+use Rattle.grid.specs.Judging.{Termed}
+use Rattle.grid.specs.Place.{Counted, blocksOf, topOf}
+use Rattle.slots.specs.Rules.{Active}
+use Rattle.slots.specs.Slots.{Ends, blockOf}
+use Rattle.slots.specs.Units.{slotsEach}
+use Rattle.block.specs.declared.Fluids.{Fluids}
+use Rattle.block.specs.declared.geometry.Levels.{Levels}
+use Rattle.block.specs.Fluids.{fluidsOf, newHeads, oldHeads}
+use Rattle.block.specs.Geometry.{levelsOf, thicknessesOf}
+use Rattle.block.specs.Wells.{isDry, lengthsOf}
+use Rattle.wellformed.specs.Links.{activeOf}
+use Rattle.books.specs.Rows.{Row}
+
+-- base, Z and U of a block, by heads that are its old or its new ones
+unfoldable pub levelsAt : Grid → List ℤ → ℕ → Fluids → Levels
+levelsAt g slots i heads = levelsOf g (blockOf slots i) (topOf g i) heads
+
+-- the levels of a block by its new heads
+abbrev pub newLevels : Grid → List ℤ → ℕ → Levels
+newLevels g slots i = levelsAt g slots i (newHeads (blockOf slots i))
+
+-- the levels of a block by its old heads: "Only old volumes and code 21 use old heads."
+abbrev pub oldLevels : Grid → List ℤ → ℕ → Levels
+oldLevels g slots i = levelsAt g slots i (oldHeads (blockOf slots i))
+
+-- the thickness of each fluid by new heads: "Fresh thickness Bf = U - Z, salt thickness Bs = Z - base." An inactive block holds none: "If p is outside,
+-- inactive or without the fluid"
+unfoldable pub watersOf : Grid → List ℤ → ℕ → Fluids
+watersOf g slots i = cond (activeOf slots i) (thicknessesOf (newLevels g slots i)) (fluidsOf (pos 0) (pos 0))
+
+-- "Pumpage other than 0 with wetted length 0 is a dry well."
+unfoldable pub dryAt : Grid → List ℤ → ℕ → Bool
+dryAt g slots i = activeOf slots i && isDry (blockOf slots i) (lengthsOf (blockOf slots i) (newLevels g slots i))
+
+-- what later parts require of a grid and its slots, as 3, 7, 4 and 6 do not refuse them
+pub record Slotted (g : Grid) (slots : List ℤ) : Type 0 where
+  pub counted : Counted g
+  pub termed : Termed g
+  pub room : slotsEach * blocksOf g ≤ length slots
+  pub active : (i : ℕ) → i < blocksOf g → T (activeOf slots i) → Active (blockOf slots i) (topOf g i)
+
+-- what later parts require of a row of thicknesses
+abbrev pub Watered : Grid → List ℤ → List ℤ → Type 0
+Watered g slots row = Row (blocksOf g) (watersOf g slots) row
+
+-- what later parts require of one block
+pub record Sound (slots : List ℤ) (i : ℕ) : Type 0 where
+  pub room : slotsEach * i + slotsEach ≤ length slots
+  pub ends : T (activeOf slots i) → Ends (blockOf slots i)

@@ -1,0 +1,4 @@
+-- Laws of what crosses to other languages. They hold nothing to believe.
+pub mod CrossingLaws
+pub mod ClientTheorems
+pub mod OutcomeTheorems
