@@ -1,17 +1,18 @@
-"""The parts of docs/CHECKING.md that a script writes. Part NAME stands between the lines '<!-- NAME -->' and '<!-- end of NAME -->'."""
+"""The parts of documents that a script writes. Part NAME stands between the lines '<!-- NAME -->' and '<!-- end of NAME -->'."""
 
 import pathlib
 
 ROOT = pathlib.Path(__file__).resolve().parent.parent
-DOCUMENT = ROOT / "docs/CHECKING.md"
+DOCUMENTS = {"drawing": ROOT / "README.md", "times": ROOT / "docs/CHECKING.md"}
 
 
 def split(name):
     """The document before a part, the part, and the document after it."""
-    before, mark, rest = DOCUMENT.read_text(encoding="utf-8").partition(f"<!-- {name} -->\n")
+    document = DOCUMENTS[name]
+    before, mark, rest = document.read_text(encoding="utf-8").partition(f"<!-- {name} -->\n")
     part, end, after = rest.partition(f"<!-- end of {name} -->\n")
     if not mark or not end:
-        raise SystemExit(f"{DOCUMENT.relative_to(ROOT)} has no lines '<!-- {name} -->' and '<!-- end of {name} -->'")
+        raise SystemExit(f"{document.relative_to(ROOT)} has no lines '<!-- {name} -->' and '<!-- end of {name} -->'")
     return before + mark, part, end + after
 
 
@@ -23,7 +24,7 @@ def read(name):
 def write(name, text):
     """Puts a text in a part's place."""
     before, _, after = split(name)
-    DOCUMENT.write_text(f"{before}\n{text}\n\n{after}", encoding="utf-8")
+    DOCUMENTS[name].write_text(f"{before}\n{text}\n\n{after}", encoding="utf-8")
 
 
 def crates():

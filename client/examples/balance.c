@@ -1,30 +1,23 @@
-/* Prints the verdict on the heads of a case file, and the water account of the whole grid in litres a day. */
+/* Prints the verdict on the heads of a case file, and, where they are accepted, the water account of the whole grid in litres a day. The status is 0 if
+   they are accepted, 1 if they are not, 2 for a file that is refused, and 3 where nothing can be said. */
 #include <inttypes.h>
 #include <stdio.h>
 
 #include "caydubeesh.h"
 
-/* By number, the refusals that can come here: a file's, and 13. */
-static const char *const words[] = {
-    "",
-    "the file ends where a byte is still needed",
-    "a number is longer than its shortest form, or a fifth byte has its high bit set",
-    "a count or the block total is out of range",
-    "δ, flag, step or tolerance is out of range",
-    "a width is out of range",
-    "a slot is out of range",
-    "a lent slice is too short",
-    "bytes follow the last block",
-    "an active block's top lies above the base of the block directly above it, both active",
-    "a conductance of either fluid exceeds 268,435,456, lateral ones worked out with the greater aquifer thickness of the two blocks",
-    "",
-    "",
-    "a table is asked for with a dry well",
-};
-
 static int refused(uint64_t number, size_t block)
 {
-    printf("refused %" PRIu64 " %zu: %s\n", number, block, words[number]);
+    printf("refused %" PRIu64 " %zu: %s\n", number, block, caydubeesh_words(number));
+    return 2;
+}
+
+/* Says what the code means, and where the first block concerned lies. */
+static int not_accepted(const int64_t *record, const int64_t *verdict)
+{
+    int64_t columns = record[CAYDUBEESH_RECORD_COLUMNS], rows = record[CAYDUBEESH_RECORD_ROWS];
+    int64_t code = verdict[CAYDUBEESH_VERDICT_CODE], before = verdict[CAYDUBEESH_VERDICT_BLOCK] - 1;
+    printf("%s: layer %" PRId64 ", row %" PRId64 ", column %" PRId64 "\n", caydubeesh_words((uint64_t)code),
+           before / (columns * rows) + 1, before / columns % rows + 1, before % columns + 1);
     return 1;
 }
 
@@ -44,12 +37,12 @@ int main(int count, char **arguments)
     size_t block;
     if (count != 2) {
         fprintf(stderr, "usage: balance FILE\n");
-        return 2;
+        return 3;
     }
     FILE *in = fopen(arguments[1], "rb");
     if (in == NULL) {
         perror(arguments[1]);
-        return 2;
+        return 3;
     }
     size_t length = fread(file, 1, sizeof file, in);
     fclose(in);
@@ -65,6 +58,8 @@ int main(int count, char **arguments)
     if (number != 0)
         return refused(number, block);
     printf("verdict %" PRId64 " %" PRId64 " %" PRId64 " %" PRId64 "\n", verdict[0], verdict[1], verdict[2], verdict[3]);
+    if (verdict[CAYDUBEESH_VERDICT_CODE] != CAYDUBEESH_CODE_ACCEPTED)
+        return not_accepted(record, verdict);
 
     for (int mark = 0; mark < CAYDUBEESH_MOST_BLOCKS; mark++)
         whole[mark] = 1;

@@ -1,5 +1,5 @@
 //! Caydubeesh for Rust: a check and a water budget for island aquifers in which fresh water floats on salt water. The functions are those of the proved
-//! crate `client` behind slices and structs; their rules are those of the client's document 01.
+//! crate `client` behind slices and structs. docs/CASES.md says what a case is, docs/REFUSALS.md what each refusal and code means.
 //!
 //! A tick is 1/4,096 m; levels and heads are in ticks. Flows, pumpage, the tolerance and the lines of a table are in litres a day. A case is a [`Record`],
 //! the widths of its columns and of its rows in metres, and [`SLOTS`] numbers to a block:
@@ -31,19 +31,26 @@
 //!     10_000, -204_800, 245_760, 200, 0, 0, 0, 0, 0, 5, 0, 0, 8_192, 0, 8_192, 0,
 //!     10_000, -204_800, 245_760, 200, 0, 0, 150, -4_096, 4_096, 0, 0, 0, 8_191, 0, 8_191, 0,
 //! ];
-//! let verdict = caydubeesh::verdict(&record, &[100, 100], &[100], &slots)?;
-//! assert_eq!((verdict.code, verdict.largest), (0, 4));
+//! let case = caydubeesh::Case { record, columns: vec![100, 100], rows: vec![100], slots: slots.to_vec() };
+//! let verdict = case.verdict()?;
+//! assert!(verdict.is_accepted());
+//! assert_eq!(verdict.largest, 4);
 //! # Ok::<(), caydubeesh::Refusal>(())
 //! ```
 
 #![deny(missing_docs)]
 #![deny(unsafe_code)]
 
+mod case;
+mod names;
 #[allow(unsafe_code)]
-mod raw;
+pub mod raw;
 
 use std::error::Error;
 use std::fmt;
+
+pub use case::{Case, Place};
+pub use names::{code, kind, refused, slot};
 
 /// Slots of a block.
 pub const SLOTS: usize = 16;
@@ -88,29 +95,20 @@ pub struct Refusal {
     pub block: usize,
 }
 
+/// What a refusal's number or a verdict's code means, in words; 0 is the code's. client/src/words.def has them all.
+pub fn words(number: u64) -> &'static str {
+    raw::words(number)
+}
+
+/// The version of the library that is linked.
+pub fn version() -> &'static str {
+    raw::version()
+}
+
 impl Refusal {
-    /// When this number is given, in the words of document 01. 8 is shortened to what can come here, and 12 has the clause about ticks added.
+    /// When this number is given.
     pub fn words(&self) -> &'static str {
-        match self.number {
-            1 => "the file ends where a byte is still needed",
-            2 => "a number is longer than its shortest form, or a fifth byte has its high bit set",
-            3 => "a count or the block total is out of range",
-            4 => "δ, flag, step or tolerance is out of range",
-            5 => "a width is out of range",
-            6 => "a slot is out of range",
-            7 => "a lent slice is too short",
-            8 => "bytes follow the last block",
-            9 => "an active block's top lies above the base of the block directly above it, both active",
-            10 => "a conductance of either fluid exceeds 268,435,456, lateral ones worked out with the greater aquifer thickness of the two blocks",
-            11 => "a mark is neither 0 nor 1",
-            12 => {
-                "a double is no number, infinite, or its tick outside ±4,194,304, or above 0 for a sea floor; or a tick to be shown has 2⁵³ or more \
-                 without sign"
-            }
-            13 => "a table is asked for with a dry well",
-            14 => "a report names no active block",
-            _ => "no refusal has this number",
-        }
+        words(self.number)
     }
 }
 
@@ -133,6 +131,18 @@ pub struct Verdict {
     pub count: usize,
     /// The largest balance without sign among free heads, litres a day; 0 for 21, 22, or with no free place.
     pub largest: i64,
+}
+
+impl Verdict {
+    /// Whether the heads are accepted.
+    pub fn is_accepted(&self) -> bool {
+        self.code == code::ACCEPTED
+    }
+
+    /// What the code means.
+    pub fn words(&self) -> &'static str {
+        words(self.code as u64)
+    }
 }
 
 /// The lines of a zone's water account in one fluid, litres a day. They close: storage + error = edge_in - edge_out + converted + wells + recharge +
@@ -266,29 +276,4 @@ pub fn metres(tick: i64) -> Result<f64, Refusal> {
     let mut metres = 0.0;
     let number = raw::metres(tick, &mut metres);
     answer(number, 0, metres)
-}
-
-/// A case in memory of its own.
-#[derive(Clone, Debug, PartialEq, Eq)]
-pub struct Case {
-    /// The first seven numbers.
-    pub record: Record,
-    /// The width of each column in metres.
-    pub columns: Vec<i64>,
-    /// The width of each row in metres.
-    pub rows: Vec<i64>,
-    /// [`SLOTS`] numbers to a block.
-    pub slots: Vec<i64>,
-}
-
-impl Case {
-    /// Reads a case file. Refused as [`read`] refuses, but never with 7.
-    pub fn read(file: &[u8]) -> Result<Case, Refusal> {
-        let (mut columns, mut rows, mut slots) = (vec![0; WIDTHS], vec![0; WIDTHS], vec![0; SLOTS * BLOCKS]);
-        let record = read(file, &mut columns, &mut rows, &mut slots)?;
-        columns.truncate(record.columns as usize);
-        rows.truncate(record.rows as usize);
-        slots.truncate(SLOTS * columns.len() * rows.len() * record.layers as usize);
-        Ok(Case { record, columns, rows, slots })
-    }
 }

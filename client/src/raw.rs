@@ -1,10 +1,17 @@
-//! The eight functions of the archive, each with slices in place of pointers and lengths. All `unsafe` of the crate stands here.
+//! The functions of the archive as they are, each with slices in place of pointers and lengths: a refusal's number comes back, 0 for none, and an answer goes
+//! over the front of what is lent for it. Slices may be too short here, which is refused with 7. All `unsafe` of the crate stands here.
 //!
 //! What the functions ask of a caller (client/include/caydubeesh.h) holds of every call below: a slice's pointer is never null, is aligned and reaches over
 //! its length, and what is lent with `&mut` overlaps nothing else. They ask nothing of the numbers.
 
+use std::ffi::{c_char, CStr};
+
 mod archive {
+    use std::ffi::c_char;
+
     extern "C" {
+        pub fn caydubeesh_words(number: u64) -> *const c_char;
+        pub fn caydubeesh_version() -> *const c_char;
         pub fn caydubeesh_read(
             file: *const u8,
             file_length: usize,
@@ -202,4 +209,25 @@ pub fn floor_tick(metres: f64, tick: &mut i64) -> u64 {
 pub fn metres(tick: i64, metres: &mut f64) -> u64 {
     // SAFETY: `metres` is lent with `&mut`.
     unsafe { archive::caydubeesh_metres(tick, metres) }
+}
+
+/// A text of the archive's.
+///
+/// # Safety
+/// The pointer is one that `caydubeesh_words` or `caydubeesh_version` answers: never null, to a text in UTF-8 that ends with a zero and is never changed.
+unsafe fn text(start: *const c_char) -> &'static str {
+    // SAFETY: as above.
+    unsafe { CStr::from_ptr(start) }.to_str().unwrap_or("")
+}
+
+/// What a refusal's number or a verdict's code means.
+pub fn words(number: u64) -> &'static str {
+    // SAFETY: the function takes any number, and its answer is what `text` asks for.
+    unsafe { text(archive::caydubeesh_words(number)) }
+}
+
+/// The version of the archive.
+pub fn version() -> &'static str {
+    // SAFETY: the answer is what `text` asks for.
+    unsafe { text(archive::caydubeesh_version()) }
 }

@@ -142,6 +142,14 @@ static void try_metres(void)
     assert(caydubeesh_metres(-4096, &metres) == 0 && metres == -1.0);
 }
 
+static void try_words(void)
+{
+    assert(strcmp(caydubeesh_words(CAYDUBEESH_REFUSED_SLOT), "a slot is out of range") == 0);
+    assert(strcmp(caydubeesh_words(CAYDUBEESH_CODE_DRY_WELL), "a well is dry") == 0);
+    assert(strcmp(caydubeesh_words(UINT64_MAX), "no refusal and no code has this number") == 0);
+    assert(strcmp(caydubeesh_version(), CAYDUBEESH_VERSION) == 0);
+}
+
 int main(void)
 {
     try_read();
@@ -150,5 +158,6 @@ int main(void)
     try_zone_table();
     try_report();
     try_metres();
+    try_words();
     return 0;
 }

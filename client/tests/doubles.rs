@@ -2,8 +2,10 @@
 
 mod common;
 
-use caydubeesh::{floor_tick, metres, tick};
-use common::{raw, refused, Dice, FILL};
+use caydubeesh::{floor_tick, metres, raw, tick};
+use common::refused;
+use comparison::dice::Dice;
+use comparison::FILL;
 
 /// Half a tick in metres.
 const HALF: f64 = 1.0 / 8_192.0;

@@ -3,7 +3,8 @@
 mod common;
 
 use caydubeesh::{Case, Lines, Record, Refusal, Report, Table, Verdict, SLOTS};
-use common::{refused, Slices};
+use common::{refused, Wrapped};
+use comparison::slices::Slices;
 
 const PRINTED: &[u8] = include_bytes!("../../examples/printed.case");
 
@@ -173,36 +174,6 @@ fn refusals_say_document_01s_words() {
     assert_eq!(said, "refused 14 18446744073709551615: a report names no active block");
 }
 
-/// Document 01, "Refusal numbers", typed from there: of 8 only what can come here, and 12 with the clause about ticks added.
-const WORDS: [&str; 14] = [
-    "the file ends where a byte is still needed",
-    "a number is longer than its shortest form, or a fifth byte has its high bit set",
-    "a count or the block total is out of range",
-    "δ, flag, step or tolerance is out of range",
-    "a width is out of range",
-    "a slot is out of range",
-    "a lent slice is too short",
-    "bytes follow the last block",
-    "an active block's top lies above the base of the block directly above it, both active",
-    "a conductance of either fluid exceeds 268,435,456, lateral ones worked out with the greater aquifer thickness of the two blocks",
-    "a mark is neither 0 nor 1",
-    "a double is no number, infinite, or its tick outside ±4,194,304, or above 0 for a sea floor; or a tick to be shown has 2⁵³ or more without sign",
-    "a table is asked for with a dry well",
-    "a report names no active block",
-];
-
-#[test]
-fn wrapper_header_page_and_caller_have_document_01s_words() {
-    let header = include_str!("../include/caydubeesh.h").split_whitespace().collect::<Vec<_>>().join(" ");
-    let (page, caller) = (include_str!("../../docs/CLIENT.md"), include_str!("../examples/balance.c"));
-    for (number, words) in (1..).zip(WORDS) {
-        assert_eq!(Refusal { number, block: 0 }.words(), words);
-        assert!(header.contains(&format!(" {number} {words} ")), "{number} {words}");
-        assert!(page.contains(&format!("| {number} | {words} |")), "{number} {words}");
-        assert!(number > 10 && number != 13 || caller.contains(&format!("\"{words}\",")), "{number} {words}");
-    }
-}
-
 #[test]
 fn header_has_the_wrappers_numbers() {
     let header = include_str!("../include/caydubeesh.h");
@@ -219,7 +190,7 @@ fn a_small_stack_is_enough_and_threads_do_not_meet() {
     let run = || {
         let (mut record, mut columns, mut rows, mut slots, mut block) = ([0; 7], [0; 64], [0; 64], vec![0; 8_192], 0);
         for _ in 0..200 {
-            let number = common::raw::read(PRINTED, &mut record, &mut columns, &mut rows, &mut slots, &mut block);
+            let number = caydubeesh::raw::read(PRINTED, &mut record, &mut columns, &mut rows, &mut slots, &mut block);
             assert_eq!((number, block), (0, 0));
             assert_eq!(Slices::printed().verdict(), Ok([0, 0, 0, 4]));
             assert_eq!(Slices::printed().table(&[1, 1]), Ok([[0, 0, 0, 0, -150, 0, 0, 146, -4], [0; 9]]));

@@ -2,28 +2,22 @@
 
 mod common;
 
-use caydubeesh::Case;
-use common::{raw, Dice, Slices, FILL, NO_BLOCK};
+use caydubeesh::{raw, Case};
+use common::Wrapped;
+use comparison::dice::Dice;
+use comparison::generator::faults::damage;
+use comparison::generator::files::damage_bytes;
+use comparison::generator::grid::grid;
+use comparison::generator::shapes;
+use comparison::slices::Slices;
+use comparison::{FILL, NO_BLOCK};
 
-const ROUNDS: usize = 10_000;
+const ROUNDS: usize = 4_000;
 
-/// Puts a wild number in some place of a case or its marks, or makes a slice shorter or longer.
-fn damage(dice: &mut Dice, case: &mut Slices, marks: &mut Vec<i64>) {
-    let slice = match dice.below(8) {
-        0 => &mut case.record,
-        1 => &mut case.columns,
-        2 => &mut case.rows,
-        3 => marks,
-        _ => &mut case.slots,
-    };
-    if dice.one_in(4) {
-        let length = dice.below(slice.len() + 3);
-        return slice.resize(length, FILL);
-    }
-    let place = dice.below(slice.len() + 1);
-    if let Some(number) = slice.get_mut(place) {
-        *number = dice.wild();
-    }
+/// A case whose numbers are in range and whose layers do not overlap.
+fn any_grid(dice: &mut Dice) -> Slices {
+    let shape = if dice.one_in(4) { shapes::middle(dice) } else { shapes::small(dice) };
+    grid(dice, shape)
 }
 
 /// What the functions say of a case: the numbers of their refusals with their blocks, and the answers, which stay as they were filled beside a refusal.
@@ -145,7 +139,7 @@ fn any_case() {
     let mut answered = [0; 15];
     let mut codes = [0; 25];
     for _ in 0..ROUNDS {
-        let mut case = dice.case();
+        let mut case = any_grid(&mut dice);
         let mut marks: Vec<i64> = (0..case.blocks()).map(|_| dice.from(0, 1)).collect();
         if dice.one_in(2) {
             damage(&mut dice, &mut case, &mut marks);
@@ -202,7 +196,7 @@ fn tables_add() {
     let mut dice = Dice(6);
     let mut added = 0;
     for _ in 0..ROUNDS {
-        let case = dice.case();
+        let case = any_grid(&mut dice);
         let one: Vec<i64> = (0..case.blocks()).map(|_| dice.from(0, 1)).collect();
         let other: Vec<i64> = one.iter().map(|mark| 1 - mark).collect();
         let all = vec![1; case.blocks()];
@@ -224,7 +218,7 @@ fn files_written_are_read_back() {
     let mut dice = Dice(7);
     let mut read = 0;
     for _ in 0..ROUNDS {
-        let case = dice.case();
+        let case = any_grid(&mut dice);
         let found = Case::read(&case.file());
         assert_eq!(found.clone().map(|_| ()), case.check());
         if let Ok(found) = found {
@@ -235,25 +229,14 @@ fn files_written_are_read_back() {
     assert!(read > ROUNDS / 4);
 }
 
-/// Changes a byte of a file, puts one in, or cuts the file.
-fn damage_file(dice: &mut Dice, file: &mut Vec<u8>) {
-    let place = dice.below(file.len());
-    match dice.below(4) {
-        0 => file[place] = dice.roll() as u8,
-        1 => file[place] ^= 1 << dice.below(8),
-        2 => file.truncate(place + 1),
-        _ => file.insert(place, dice.roll() as u8),
-    }
-}
-
 #[test]
 fn damaged_files() {
     let mut dice = Dice(8);
     let mut refused = [0; 11];
     for _ in 0..ROUNDS {
-        let mut file = dice.case().file();
+        let mut file = any_grid(&mut dice).file();
         for _ in 0..=dice.below(3) {
-            damage_file(&mut dice, &mut file);
+            damage_bytes(&mut dice, &mut file);
         }
         let mut room = |need: usize| if dice.one_in(10) { dice.below(need) } else { need };
         let lengths = [room(7), room(64), room(64), room(8_192)];

@@ -3,30 +3,12 @@
 mod common;
 
 use caydubeesh::SLOTS;
-use common::{refused, Slices};
+use common::{refused, Wrapped};
+use comparison::generator::ranges::{OF_RECORD, OF_SLOT};
+use comparison::slices::Slices;
 
-/// The lower and upper end of each number of a record, and what is given beyond them.
-const RECORD: [(i64, i64, u64); 7] = [(1, 64, 3), (1, 64, 3), (1, 8, 3), (1, 100, 4), (0, 1, 4), (1, 36_525, 4), (0, 1_000_000_000, 4)];
-
-/// The lower and upper end of each slot.
-const ENDS: [(i64, i64); SLOTS] = [
-    (0, 1_000_000),
-    (-4_194_304, 4_194_304),
-    (1, 4_194_304),
-    (1, 1_000),
-    (0, 1_000_000),
-    (0, 1_000_000),
-    (-1_073_741_824, 1_073_741_824),
-    (-4_194_304, 8_388_608),
-    (-4_194_304, 8_388_608),
-    (0, 5),
-    (-4_194_304, 4_194_304),
-    (0, 1_000_000),
-    (-4_194_304, 4_194_304),
-    (-4_194_304, 4_194_304),
-    (-4_194_304, 4_194_304),
-    (-4_194_304, 4_194_304),
-];
+/// What is given where a number of the record is out of range.
+const REFUSALS: [u64; 7] = [3, 3, 3, 4, 4, 4, 4];
 
 /// Numbers beyond two ends: the next ones, the extreme ones, and some between. Of the last one the low 32 bits alone would be in range.
 fn beyond((low, high): (i64, i64)) -> [i64; 7] {
@@ -45,12 +27,12 @@ fn all_refuse(case: &Slices, number: u64, block: usize) {
 
 #[test]
 fn each_number_of_the_record() {
-    for (place, (low, high, number)) in RECORD.into_iter().enumerate() {
-        for value in beyond((low, high)) {
-            all_refuse(&Slices::printed().with_record(place, value), number, 0);
+    for (place, ends) in OF_RECORD.into_iter().enumerate() {
+        for value in beyond(ends) {
+            all_refuse(&Slices::printed().with_record(place, value), REFUSALS[place], 0);
         }
     }
-    for (place, (low, high, _)) in RECORD.into_iter().enumerate().skip(3) {
+    for (place, (low, high)) in OF_RECORD.into_iter().enumerate().skip(3) {
         for value in [low, high] {
             assert_eq!(Slices::printed().with_record(place, value).check(), Ok(()));
         }
@@ -106,7 +88,7 @@ fn each_width() {
 
 #[test]
 fn each_slot() {
-    for (slot, ends) in ENDS.into_iter().enumerate() {
+    for (slot, ends) in OF_SLOT.into_iter().enumerate() {
         for value in beyond(ends) {
             all_refuse(&Slices::printed().with(1, slot, value), 6, 1);
             all_refuse(&Slices::printed().with(2, slot, value), 6, 2);

@@ -1,8 +1,8 @@
 //! Slices that are too short, and slices with room to spare. Memory is filled before a call, and compared as a whole after it.
 
-mod common;
-
-use common::{raw, Slices, FILL, NO_BLOCK};
+use caydubeesh::raw;
+use comparison::slices::Slices;
+use comparison::{FILL, NO_BLOCK};
 
 const MARKS: [i64; 2] = [1, 1];
 

@@ -1,0 +1,147 @@
+//! Limits exactly met, and passed by the least that is possible.
+
+use caydubeesh::{raw, slot};
+
+use super::asked::active;
+use super::grid::grid;
+use super::ranges::{LEVEL, OF_RECORD, OF_SLOT, OF_WIDTH, TOLERANCE};
+use super::shapes::{self, Shape};
+use crate::dice::Dice;
+use crate::slices::{place, Slices, SLOTS};
+
+/// A tolerance that equals the largest balance, or is one below it.
+pub fn tolerance_met(dice: &mut Dice) -> Slices {
+    let shape = shapes::small(dice);
+    let mut case = grid(dice, shape).with_record(place::TOLERANCE, 0);
+    let (mut verdict, mut block) = ([0; 4], 0);
+    raw::verdict(&case.record, &case.columns, &case.rows, &case.slots, &mut verdict, &mut block);
+    case.record[place::TOLERANCE] = (verdict[3] - dice.from(0, 1)).clamp(0, TOLERANCE);
+    case
+}
+
+/// A case with the greatest value in one slot of one block that the check passes, or with one more. A slot that must be 0 there stays so,
+/// or is 1.
+pub fn slot_met(dice: &mut Dice) -> Slices {
+    let shape = shapes::small(dice);
+    let mut case = grid(dice, shape);
+    let Some(block) = active(dice, &case).filter(|_| passes(&case)) else {
+        return case;
+    };
+    let slot = dice.pick(&[slot::K, slot::THICKNESS, slot::LEAKANCE, slot::BOUNDARY_LEAKANCE]);
+    let (mut low, mut beyond) = (case.block(block)[slot], OF_SLOT[slot].1 + 1);
+    while low + 1 < beyond {
+        let middle = (low + beyond) / 2;
+        case.block_mut(block)[slot] = middle;
+        if passes(&case) {
+            low = middle;
+        } else {
+            beyond = middle;
+        }
+    }
+    case.block_mut(block)[slot] = low + dice.from(0, 1);
+    case
+}
+
+fn passes(case: &Slices) -> bool {
+    raw::check(&case.record, &case.columns, &case.rows, &case.slots, &mut 0) == 0
+}
+
+/// Sets base and thickness of a block, and takes its well away.
+pub fn set_span(case: &mut Slices, block: usize, base: i64, thickness: i64) {
+    case.set_well(block, [0; 3]);
+    case.block_mut(block)[slot::BASE..=slot::THICKNESS].copy_from_slice(&[base, thickness]);
+}
+
+/// A block whose top touches the base of the block above it, or lies one tick above it.
+pub fn tops_met(dice: &mut Dice) -> Slices {
+    let shape = shapes::stack(dice);
+    let mut case = grid(dice, shape);
+    let a_layer = shape[0] * shape[1];
+    for _ in 0..=dice.below(2) {
+        let block = 1 + dice.below(a_layer * (shape[2] - 1));
+        let ([base, _], [above, _]) = (case.span(block), case.span(block + a_layer));
+        let thickness = above - base + dice.from(0, 1);
+        if case.is_active(block) && (1..=LEVEL).contains(&thickness) {
+            set_span(&mut case, block, base, thickness);
+        }
+    }
+    case
+}
+
+/// Some numbers at their ends or one beyond them. Rules between numbers may be broken too.
+pub fn ends_met(dice: &mut Dice) -> Slices {
+    let shape = shapes::small(dice);
+    let mut case = grid(dice, shape);
+    for _ in 0..=dice.below(2) {
+        end_met(dice, &mut case);
+    }
+    case
+}
+
+/// Puts one number of a case at an end of its range, or one beyond it.
+pub fn end_met(dice: &mut Dice, case: &mut Slices) {
+    let lengths = [case.record.len(), case.columns.len(), case.rows.len(), case.slots.len()];
+    let slice = dice.pick(&[0, 1, 2, 3, 3, 3, 3, 3]);
+    if lengths[slice] == 0 {
+        return;
+    }
+    let index = dice.below(lengths[slice]);
+    let (numbers, (low, high)) = match slice {
+        0 => (&mut case.record, OF_RECORD[index % OF_RECORD.len()]),
+        1 => (&mut case.columns, OF_WIDTH),
+        2 => (&mut case.rows, OF_WIDTH),
+        _ => (&mut case.slots, OF_SLOT[index % SLOTS]),
+    };
+    numbers[index] = dice.pick(&[low, high, low - 1, high + 1]);
+}
+
+/// A well whose screen is at an end of the aquifer, one tick beyond it, or has no length; or a screen without a well.
+pub fn screens_met(dice: &mut Dice) -> Slices {
+    let shape = shapes::line(dice);
+    let mut case = grid(dice, shape);
+    let Some(block) = active(dice, &case) else {
+        return case;
+    };
+    // The highest aquifer of all, with a K that leaves every conductance below the limit.
+    if dice.one_in(4) {
+        set_span(&mut case, block, LEVEL, LEVEL);
+        case.block_mut(block)[slot::K] = 1;
+    }
+    let [base, top] = case.span(block);
+    let pumpage = dice.pick(&[1, -1, 0, 1_000, -1_000]);
+    let screens =
+        [[base, top], [base - 1, top], [base, top + 1], [base, base], [top, top], [top, base], [top - 1, top], [base, base + 1], [0, 0]];
+    let screen = dice.pick(&screens);
+    case.set_well(block, [pumpage, screen[0], screen[1]]);
+    case
+}
+
+/// Shapes of 512 blocks, of 513, and of more.
+const TOTALS: [Shape; 12] = [
+    [64, 8, 1],
+    [8, 64, 1],
+    [16, 8, 4],
+    [2, 32, 8],
+    [27, 19, 1],
+    [57, 9, 1],
+    [9, 19, 3],
+    [57, 3, 3],
+    [64, 9, 1],
+    [64, 64, 8],
+    [65, 1, 1],
+    [1, 1, 9],
+];
+
+/// A grid about as large as can be, in which few blocks are active, with the slots of at most 513 blocks.
+pub fn total_met(dice: &mut Dice) -> Slices {
+    let [columns, rows, layers] = dice.pick(&TOTALS);
+    let mut case = Slices::empty(columns, rows, 1);
+    case.record[place::LAYERS] = layers as i64;
+    case.slots.resize(SLOTS * (columns * rows * layers).min(513), 0);
+    let one = grid(dice, [1, 1, 1]);
+    for _ in 0..dice.below(20) {
+        let block = case.blocks() - dice.below(case.blocks().min(columns * rows));
+        case.block_mut(block).copy_from_slice(&one.slots);
+    }
+    case
+}

@@ -1,0 +1,169 @@
+//! An engine with a deliberate fault is found out by the same comparison that the archive passes.
+
+use comparison::engines::{Archive, Engine, Reference};
+use comparison::generator;
+use comparison::slices::{place, Slices};
+use comparison::tally::Tally;
+
+/// Within so many inputs a fault is found.
+const INPUTS: u64 = 3_000;
+
+#[derive(Clone, Copy, Debug, PartialEq)]
+enum Fault {
+    None,
+    ReaderStoresNothing,
+    ReaderWritesBeyond,
+    RefusedReaderWrites,
+    CheckAcceptsAll,
+    CheckRefusesAll,
+    BlockIsNotNamed,
+    VerdictOfZerosForLayers,
+    VerdictCountsOnePlace,
+    TableOfZeros,
+    BoundaryInOtherFluid,
+    EdgesNetted,
+    ReportOfHeldInterface,
+    HalvesAwayFromZero,
+    FloorAboveZero,
+    RefusedMetresWritten,
+}
+
+/// The archive with a fault.
+struct Faulty(Fault);
+
+impl Engine for Faulty {
+    fn read(&self, file: &[u8], lent: &mut Slices, block: &mut usize) -> u64 {
+        let before = lent.clone();
+        let refusal = Archive.read(file, lent, block);
+        match self.0 {
+            Fault::ReaderStoresNothing => *lent = before,
+            Fault::ReaderWritesBeyond if refusal == 0 => lent.slots.iter_mut().skip(16).for_each(|slot| *slot = (*slot).max(0)),
+            Fault::RefusedReaderWrites if refusal == 8 => lent.columns.fill(0),
+            _ => {}
+        }
+        refusal
+    }
+
+    fn check(&self, case: &Slices, block: &mut usize) -> u64 {
+        let refusal = Archive.check(case, block);
+        match self.0 {
+            Fault::CheckAcceptsAll => {
+                *block = 0;
+                0
+            }
+            Fault::CheckRefusesAll if refusal == 0 => 4,
+            Fault::BlockIsNotNamed => {
+                *block = 0;
+                refusal
+            }
+            _ => refusal,
+        }
+    }
+
+    fn verdict(&self, case: &Slices, verdict: &mut [i64], block: &mut usize) -> u64 {
+        let refusal = Archive.verdict(case, verdict, block);
+        match self.0 {
+            Fault::VerdictOfZerosForLayers if refusal == 0 && case.record[place::LAYERS] > 1 => verdict[..4].fill(0),
+            Fault::VerdictCountsOnePlace if refusal == 0 => verdict[2] = verdict[2].min(1),
+            _ => {}
+        }
+        refusal
+    }
+
+    fn zone_table(&self, case: &Slices, marks: &[i64], lines: &mut [i64], block: &mut usize) -> u64 {
+        let refusal = Archive.zone_table(case, marks, lines, block);
+        match self.0 {
+            Fault::TableOfZeros if refusal == 0 => lines[..18].fill(0),
+            Fault::BoundaryInOtherFluid if refusal == 0 => lines.swap(6, 15),
+            Fault::EdgesNetted if refusal == 0 => {
+                let both = lines[1].min(lines[2]);
+                lines[1..3].iter_mut().for_each(|line| *line -= both);
+            }
+            _ => {}
+        }
+        refusal
+    }
+
+    fn report(&self, case: &Slices, number: usize, metres: &mut [f64], block: &mut usize) -> u64 {
+        let refusal = Archive.report(case, number, metres, block);
+        if self.0 == Fault::ReportOfHeldInterface && refusal == 0 {
+            let [base, top] = case.span(number).map(|tick| tick as f64 / 4_096.0);
+            metres[2] = metres[2].clamp(base, top);
+        }
+        refusal
+    }
+
+    fn tick(&self, metres: f64, tick: &mut i64) -> u64 {
+        let refusal = Archive.tick(metres, tick);
+        if self.0 == Fault::HalvesAwayFromZero && refusal == 0 {
+            *tick = (metres * 4_096.0).round() as i64;
+        }
+        refusal
+    }
+
+    fn floor_tick(&self, metres: f64, tick: &mut i64) -> u64 {
+        match self.0 {
+            Fault::FloorAboveZero => Archive.tick(metres, tick),
+            _ => Archive.floor_tick(metres, tick),
+        }
+    }
+
+    fn metres(&self, tick: i64, metres: &mut f64) -> u64 {
+        let refusal = Archive.metres(tick, metres);
+        if self.0 == Fault::RefusedMetresWritten && refusal != 0 {
+            *metres = tick as f64 / 4_096.0;
+        }
+        refusal
+    }
+}
+
+/// The function in which the comparison finds this fault first, and after how many inputs.
+fn found(fault: Fault) -> Option<(&'static str, u64)> {
+    let mut tally = Tally::default();
+    (1..=INPUTS).find_map(|number| {
+        let (kind, input) = generator::input(1, number);
+        let difference = tally.compare(&Faulty(fault), &Reference, generator::KINDS[kind].name, &input)?;
+        Some((difference.one.function, number))
+    })
+}
+
+#[test]
+fn each_fault_is_found_in_its_function() {
+    let faults = [
+        (Fault::ReaderStoresNothing, "read"),
+        (Fault::ReaderWritesBeyond, "read"),
+        (Fault::RefusedReaderWrites, "read"),
+        (Fault::CheckAcceptsAll, "check"),
+        (Fault::CheckRefusesAll, "check"),
+        (Fault::BlockIsNotNamed, "check"),
+        (Fault::VerdictOfZerosForLayers, "verdict"),
+        (Fault::VerdictCountsOnePlace, "verdict"),
+        (Fault::TableOfZeros, "zone_table"),
+        (Fault::BoundaryInOtherFluid, "zone_table"),
+        (Fault::EdgesNetted, "zone_table"),
+        (Fault::ReportOfHeldInterface, "report"),
+        (Fault::HalvesAwayFromZero, "tick"),
+        (Fault::FloorAboveZero, "floor_tick"),
+        (Fault::RefusedMetresWritten, "metres"),
+    ];
+    for (fault, function) in faults {
+        let found = found(fault).unwrap_or_else(|| panic!("{fault:?} is not found"));
+        assert_eq!(found.0, function, "{fault:?}");
+    }
+}
+
+#[test]
+fn without_a_fault_nothing_is_found() {
+    assert_eq!(found(Fault::None), None);
+}
+
+#[test]
+fn a_difference_says_both_answers_and_the_place() {
+    let fault = Faulty(Fault::TableOfZeros);
+    let input = comparison::input::Asked::of(Slices::printed()).into();
+    let difference = Tally::default().compare(&fault, &Reference, "printed", &input).unwrap();
+    let told = "faulty: zone_table returns 0, block 0; [0 0 0 0 0 0 0 0 0 0 0 0 0 0 0 0 0 0]\n\
+                reference: zone_table returns 0, block 0; [0 0 0 0 -150 0 0 146 -4 0 0 0 0 0 0 0 0 0]\n\
+                slice 1, number 5: 0 and -150\n";
+    assert_eq!(difference.told("faulty", "reference"), told);
+}

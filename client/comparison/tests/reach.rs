@@ -1,0 +1,224 @@
+//! The generated inputs reach what they are meant to reach. Only cases that pass the check are looked at, and thicknesses are those that
+//! the archive reports.
+
+use std::collections::{BTreeMap, BTreeSet};
+
+use caydubeesh::{kind, slot};
+use comparison::answers::{answers, Answer};
+use comparison::engines::{Archive, Engine};
+use comparison::generator;
+use comparison::generator::ranges::LEVEL;
+use comparison::input::Input;
+use comparison::slices::{place, Slices};
+
+const INPUTS: u64 = 5_000;
+
+/// What must be found in at least so many cases.
+const WANTED: [(usize, &[&str]); 3] = [
+    (400, &["more than one layer", "flag 0", "flag 1", "boundary 0", "boundary 1", "boundary 2", "boundary 3", "boundary 4", "boundary 5"]),
+    (
+        50,
+        &[
+            "δ 1",
+            "δ 2",
+            "δ 40",
+            "δ 99",
+            "δ 100",
+            "fresh tip with the edge behind",
+            "salt tip with the edge behind",
+            "fresh tip with more of it behind",
+            "salt tip with more of it behind",
+            "fresh tip with not more of it behind",
+            "salt tip with not more of it behind",
+            "fresh tip with none of it behind",
+            "salt tip with none of it behind",
+            "a pumping well",
+            "an injecting well",
+            "a screen across the interface",
+            "a screen that the water table cuts",
+            "an empty block",
+            "leakage to an empty block",
+            "fresh water becomes salt",
+            "salt water becomes fresh",
+            "a top that touches the base above",
+            "a head at an end of the range",
+            "a balance that equals the tolerance",
+            "a balance one above the tolerance",
+        ],
+    ),
+    (
+        10,
+        &[
+            "eight layers",
+            "512 blocks",
+            "fresh tip with an inactive block behind",
+            "salt tip with an inactive block behind",
+            "a moved head of boundary 3",
+            "a moved head of boundary 4",
+            "a moved head of boundary 5",
+        ],
+    ),
+];
+
+/// The lines of a table that can be other than 0: all but the recharge of salt water.
+const LINES: [usize; 17] = [0, 1, 2, 3, 4, 5, 6, 7, 8, 9, 10, 11, 12, 13, 15, 16, 17];
+
+/// A case that passes, with the thickness in ticks of fresh and salt water in each active block.
+struct Looked<'a> {
+    case: &'a Slices,
+    thicknesses: Vec<Option<[i64; 2]>>,
+    found: BTreeSet<String>,
+}
+
+impl Looked<'_> {
+    fn add(&mut self, name: impl Into<String>) {
+        self.found.insert(name.into());
+    }
+
+    fn look_at_record(&mut self) {
+        let record = &self.case.record;
+        let (delta, flag, layers) = (record[place::DELTA], record[place::FLAG], record[place::LAYERS]);
+        self.add(format!("δ {delta}"));
+        self.add(format!("flag {flag}"));
+        for (name, is_so) in
+            [("more than one layer", layers > 1), ("eight layers", layers == 8), ("512 blocks", self.thicknesses.len() == 512)]
+        {
+            if is_so {
+                self.add(name);
+            }
+        }
+    }
+
+    fn look_at_block(&mut self, block: usize, [fresh, salt]: [i64; 2]) {
+        let (case, slots) = (self.case, self.case.block(block));
+        let ([base, top], boundary, pumpage) = (case.span(block), slots[slot::KIND], slots[slot::PUMPAGE]);
+        let (screen_bottom, screen_top) = (slots[slot::SCREEN_BOTTOM], slots[slot::SCREEN_TOP]);
+        let within = |level: i64| screen_bottom < level && level < screen_top;
+        let a_layer = case.columns.len() * case.rows.len();
+        let above = (block + a_layer <= case.blocks() && case.is_active(block + a_layer)).then(|| block + a_layer);
+        let is_empty = |block: usize| self.thicknesses[block - 1] == Some([0, 0]);
+        let moved = |old: usize, new: usize, kind: i64| slots[old] != slots[new] && [kind, kind::BOTH_FIXED].contains(&boundary);
+        let facts = [
+            ("a pumping well", pumpage > 0),
+            ("an injecting well", pumpage < 0),
+            ("a screen across the interface", fresh > 0 && salt > 0 && within(base + salt)),
+            ("a screen that the water table cuts", within(base + salt + fresh)),
+            ("an empty block", is_empty(block)),
+            ("leakage to an empty block", slots[slot::LEAKANCE] > 0 && above.is_some_and(is_empty)),
+            ("a top that touches the base above", above.is_some_and(|above| case.span(above)[0] == top)),
+            ("a head at an end of the range", slots[slot::OLD_FRESH..].iter().any(|head| head.abs() == LEVEL)),
+        ];
+        let has_moved =
+            moved(slot::OLD_FRESH, slot::NEW_FRESH, kind::FIXED_FRESH) || moved(slot::OLD_SALT, slot::NEW_SALT, kind::FIXED_SALT);
+        self.found.extend(facts.iter().filter(|(_, is_so)| *is_so).map(|(name, _)| name.to_string()));
+        self.add(format!("boundary {boundary}"));
+        if has_moved {
+            self.add(format!("a moved head of boundary {boundary}"));
+        }
+    }
+
+    /// What lies behind the tips of a line, going from its first block to its last.
+    fn look_at_tips(&mut self, line: &[usize], fluid: usize) {
+        let held = |index: usize| self.thicknesses[line[index] - 1].map(|thickness| thickness[fluid]);
+        let mut found = Vec::new();
+        for index in 1..line.len() {
+            let (Some(holds @ 1..), Some(0)) = (held(index - 1), held(index)) else {
+                continue;
+            };
+            let behind = match index.checked_sub(2).map(held) {
+                None => "the edge",
+                Some(None) => "an inactive block",
+                Some(Some(0)) => "none of it",
+                Some(Some(thickness)) if thickness > holds => "more of it",
+                Some(Some(_)) => "not more of it",
+            };
+            found.push(format!("{} tip with {behind} behind", ["fresh", "salt"][fluid]));
+        }
+        self.found.extend(found);
+    }
+
+    fn look_at_answers(&mut self, answers: &[Answer]) {
+        let (verdict, table) = (&answers[1], &answers[2]);
+        if verdict.refusal == 0 && verdict.lent[0][3] > 0 {
+            match verdict.lent[0][3] - self.case.record[place::TOLERANCE] {
+                0 => self.add("a balance that equals the tolerance"),
+                1 => self.add("a balance one above the tolerance"),
+                _ => {}
+            }
+        }
+        if table.refusal == 0 {
+            let lines = &table.lent[0][..18];
+            self.found.extend((0..18).filter(|&line| lines[line] != 0).map(|line| format!("line {line}")));
+            match lines[3].signum() {
+                1 => self.add("salt water becomes fresh"),
+                -1 => self.add("fresh water becomes salt"),
+                _ => {}
+            }
+        }
+    }
+}
+
+/// Fresh and salt thickness of each block, none of an inactive one.
+fn thicknesses(case: &Slices) -> Vec<Option<[i64; 2]>> {
+    let thickness = |block: usize| {
+        let mut metres = [0.0; 5];
+        let refusal = Archive.report(case, block, &mut metres, &mut 0);
+        (refusal == 0).then_some([metres[3], metres[4]].map(|thickness| (thickness * 4_096.0) as i64))
+    };
+    (1..=case.blocks()).map(thickness).collect()
+}
+
+/// The lines of blocks along the rows and the columns of each layer.
+fn lines(case: &Slices) -> Vec<Vec<usize>> {
+    let (columns, rows) = (case.columns.len(), case.rows.len());
+    let row_of = |block: usize| (block - 1) / columns;
+    let column_of = |block: usize| (block - 1) / (columns * rows) * columns + (block - 1) % columns;
+    let layers = case.blocks() / (columns * rows);
+    let along_rows = (0..rows * layers).map(|line| (1..=case.blocks()).filter(|&block| row_of(block) == line).collect());
+    let along_columns = (0..columns * layers).map(|line| (1..=case.blocks()).filter(|&block| column_of(block) == line).collect());
+    along_rows.chain(along_columns).collect()
+}
+
+/// What is found in a case that passes; of a large one only its record.
+fn look(case: &Slices, answers: &[Answer]) -> BTreeSet<String> {
+    let is_small = case.blocks() <= 64;
+    let thicknesses = if is_small { thicknesses(case) } else { vec![None; case.blocks()] };
+    let mut looked = Looked { case, thicknesses, found: BTreeSet::new() };
+    looked.look_at_record();
+    looked.look_at_answers(answers);
+    for block in 1..=case.blocks() {
+        if let Some(thickness) = looked.thicknesses[block - 1] {
+            looked.look_at_block(block, thickness);
+        }
+    }
+    for mut line in if is_small { lines(case) } else { vec![] } {
+        for fluid in [0, 1, 0, 1] {
+            looked.look_at_tips(&line, fluid);
+            line.reverse();
+        }
+    }
+    looked.found
+}
+
+#[test]
+fn cases_that_pass_have_all_that_is_wanted() {
+    let mut cases: BTreeMap<String, usize> = BTreeMap::new();
+    for number in 1..=INPUTS {
+        let (_, input) = generator::input(1, number);
+        let answers = answers(&Archive, &input);
+        let Input::Case(asked) = &input else { continue };
+        if answers[0].refusal == 0 {
+            look(&asked.case, &answers).into_iter().for_each(|name| *cases.entry(name).or_default() += 1);
+        }
+    }
+    let count = |name: &str| cases.get(name).copied().unwrap_or(0);
+    for (least, names) in WANTED {
+        for name in names {
+            assert!(count(name) >= least, "{name}: {} of at least {least}", count(name));
+        }
+    }
+    for line in LINES {
+        assert!(count(&format!("line {line}")) >= 100, "line {line}: {}", count(&format!("line {line}")));
+    }
+    assert_eq!(count("line 14"), 0);
+}
