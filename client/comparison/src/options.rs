@@ -7,7 +7,8 @@ usage: client/compare [--seed S] [--count N] [--keep FILE]
 Asks the proved functions and the second reading of document 01 the same, and compares their answers whole: the refusal, the
 block that it names, and all memory lent for the answer, also where it is not to be touched.
 
-  --seed S      the seed of the inputs, a whole number (default 1); the same seed gives the same inputs
+  --seed S      the seed of the inputs, a whole number (default 1); the same seed gives the same inputs as long as the proved
+                functions answer the same: some inputs are put at a limit or a balance that they tell
   --count N     how many inputs to compare (default 100000)
   --keep FILE   adds the input that differs to FILE, as one line
   --again FILE  compares the inputs in FILE: kept lines, or lines in the form of docs/VECTORS.md

@@ -1,4 +1,5 @@
-//! Limits exactly met, and passed by the least that is possible.
+//! Limits exactly met, and passed by the least that is possible. Where a limit or a balance has to be known for that, the archive is asked: a wrong one
+//! then puts the input where the two readings part.
 
 use caydubeesh::{raw, slot};
 
