@@ -1,4 +1,5 @@
 -- Laws and theorems of balances, and worked numbers. They hold nothing to believe.
 pub mod BalanceLaws
+pub mod SameLaws
 pub mod BalanceTheorems
 pub mod WorkedTheorems

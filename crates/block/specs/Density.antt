@@ -1,5 +1,5 @@
 -- The four rules that read δ (document 01, "One block", "A lateral face", "Leakage, river and sea"). No other rule reads it; its range is
--- judged in grid (Judging) and, of a file, in casefile (Fields). Heads and levels are in ticks, K is in mm/day.
+-- judged in grid (Judging) and, of a file, in fields (Fields). Heads and levels are in ticks, K is in mm/day.
 use lib.IntN.{_*ℤ_, _+ℤ_, _-ℤ_, negℤ, pos, ℤ}
 use Rattle.whole.specs.Whole.{floorOf}
 use Rattle.grid.specs.declared.Grid.{Grid}

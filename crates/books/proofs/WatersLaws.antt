@@ -8,13 +8,14 @@ use lib.IntN.{pos, ℤ}
 use lib.ListN.{length}
 use lib.Signed.{_≤ℤ_}
 use Rattle.whole.proofs.RangeLaws.{ranges, within}
-use Rattle.whole.proofs.SearchLaws.{holds}
+use Rattle.whole.proofs.SearchLaws.{first-none, holds, none-first}
 use Rattle.grid.specs.declared.Grid.{Grid}
 use Rattle.grid.specs.Place.{blocksOf, topOf}
 use Rattle.grid.specs.Units.{mostBlocks}
 use Rattle.slots.specs.declared.Block.{Block}
 use Rattle.slots.specs.Slots.{Ends, blockOf}
-use Rattle.slices.specs.Slices.{Case, Judged}
+use Rattle.slices.specs.Slices.{Case, Judged, firstRefusal, orElse}
+use Rattle.slices.proofs.SlicesLaws.{blames-none, here}
 use Rattle.block.specs.declared.Fluids.{Fluids}
 use Rattle.block.specs.Fluids.{Thick, fluidsOf, inFluid, newHeads, oldHeads}
 use Rattle.block.specs.Geometry.{Levelled, levelsOn, thicknessesOf}
@@ -22,7 +23,7 @@ use Rattle.block.specs.Wells.{lengthsOf}
 use Rattle.block.proofs.BlockLaws.{lengths-thick, levels-back, levels-base, levels-levelled, thickness-within, thicknesses-thick}
 use Rattle.wellformed.specs.Links.{activeOf}
 use Rattle.wellformed.proofs.LinksLaws.{reach}
-use Rattle.books.specs.Waters.{Slotted, Sound, levelsAt, newLevels, oldLevels, watersOf, Watered}
+use Rattle.books.specs.Waters.{Slotted, Sound, Watered, Wet, dryAt, dryOf, levelsAt, newLevels, oldLevels, watersOf, wellChecks}
 use Rattle.books.specs.Rows.{filledOf}
 use Rattle.books.proofs.RowsLaws.{filled-row}
 
@@ -35,6 +36,15 @@ sound {g} {slots} {i} s l = record { room = reach (s .room) l; ends = λ t. s .a
 -- a row with room for the most blocks, filled with their waters
 pub filled-watered : (g : Grid) (slots row : List ℤ) {filled : List ℤ} → Slotted g slots → filled ≡ filledOf (blocksOf g) (watersOf g slots) row → 2 * mostBlocks ≤ length row → Watered g slots filled
 filled-watered g slots row s e h = rw e (filled-row (blocksOf g) (watersOf g slots) row (omega (arith, h, s .counted .blocks-most)))
+
+-- 13 refuses nothing exactly where no well is dry
+pub wells-wet : (c : Case) → firstRefusal (wellChecks c) .number ≡ 0 → Wet (c .grid) (c .slots)
+unfolding dryOf
+wells-wet c e = first-none (dryAt (c .grid) (c .slots)) (blocksOf (c .grid)) (blames-none 13 (dryOf (c .grid) (c .slots)) (omega arith) here e)
+
+pub wet-wells : (c : Case) → Wet (c .grid) (c .slots) → firstRefusal (wellChecks c) .number ≡ 0
+unfolding dryOf firstRefusal orElse
+wet-wells c wet = rw (none-first (dryAt (c .grid) (c .slots)) (blocksOf (c .grid)) wet)
 
 module _ (g : Grid) (slots : List ℤ) (i : ℕ) where
   pub waters-on : activeOf slots i ≡ true → watersOf g slots i ≡ thicknessesOf (newLevels g slots i)

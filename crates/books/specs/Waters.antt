@@ -1,16 +1,20 @@
 -- The waters of a case's blocks (document 01, "One block"), in ticks.
-use mathlib.Core.Bool.{Bool, _&&_, cond}
-use mathlib.Core.List.{List}
+use mathlib.Core.Bool.{Bool, _&&_, cond, false}
+use mathlib.Core.List.{List, [], _∷_}
+use mathlib.Core.Path.{_≡_}
 use Prim.Native.Nat.{_*_, _+_, _<_, _≤_, ℕ}
 use lib.Dec.{T}
 use lib.IntN.{pos, ℤ}
 use lib.ListN.{length}
+use Rattle.whole.specs.Search.{firstOf}
 use Rattle.grid.specs.declared.Grid.{Grid}
 use Rattle.grid.specs.Judging.{Termed}
 use Rattle.grid.specs.Place.{Counted, blocksOf, topOf}
 use Rattle.slots.specs.Rules.{Active}
 use Rattle.slots.specs.Slots.{Ends, blockOf}
 use Rattle.slots.specs.Units.{slotsEach}
+use Rattle.slices.specs.declared.Refusal.{Refusal}
+use Rattle.slices.specs.Slices.{Case, blaming}
 use Rattle.block.specs.declared.Fluids.{Fluids}
 use Rattle.block.specs.declared.geometry.Levels.{Levels}
 use Rattle.block.specs.Fluids.{fluidsOf, newHeads, oldHeads}
@@ -39,6 +43,18 @@ watersOf g slots i = cond (activeOf slots i) (thicknessesOf (newLevels g slots i
 -- "Pumpage other than 0 with wetted length 0 is a dry well."
 unfoldable pub dryAt : Grid → List ℤ → ℕ → Bool
 dryAt g slots i = activeOf slots i && isDry (blockOf slots i) (lengthsOf (blockOf slots i) (newLevels g slots i))
+
+-- no well is dry: "22 if any well is dry"
+abbrev pub Wet : Grid → List ℤ → Type 0
+Wet g slots = (i : ℕ) → i < blocksOf g → dryAt g slots i ≡ false
+
+-- 13: "a table is asked for with a dry well"; "Refusals 6, 9, 10, 13 and 14 name the first block at fault"
+unfoldable pub dryOf : Grid → List ℤ → ℕ
+dryOf g slots = firstOf (blocksOf g) (dryAt g slots)
+
+-- 13, judged last: "11 before 13"
+abbrev pub wellChecks : Case → List Refusal
+wellChecks c = blaming 13 (dryOf (c .grid) (c .slots)) ∷ []
 
 -- what later parts require of a grid and its slots, as 3, 7, 4 and 6 do not refuse them
 pub record Slotted (g : Grid) (slots : List ℤ) : Type 0 where

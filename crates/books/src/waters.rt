@@ -8,7 +8,7 @@ ghost use Rattle.block.specs.Fluids.{Thick};
 ghost use Rattle.block.specs.Geometry.{levelsOn, Levelled};
 ghost use Rattle.block.specs.Wells.{lengthsOf};
 ghost use Rattle.books.specs.Rows.{filledOf};
-ghost use Rattle.books.specs.Waters.{watersOf, dryAt, Slotted, Watered};
+ghost use Rattle.books.specs.Waters.{watersOf, dryAt, dryOf, Slotted, Watered};
 use super::rows::pair;
 use super::rows::put;
 use block::Fluids;
@@ -75,4 +75,20 @@ pub fn is_dry_at(g: Grid, slots: &[i64], waters: &[i64], block: usize) -> bool
         return is_dry(own, lengths_on(own, pair(waters, block)));
     }
     false
+}
+
+// 13: "a table is asked for with a dry well": the first block at fault, counted from 1, or 0. Inner: the slots are in range and the row holds
+// their thicknesses.
+pub fn first_dry(g: Grid, slots: &[i64], waters: &[i64]) -> usize
+    requires { ⌜ Slotted g (now slots) ⌝ }
+    requires { ⌜ Watered g (now slots) (now waters) ⌝ }
+    ensures { λ r. ⌜ r ≡ dryOf g (now (slots .entry)) ⌝ }
+{
+    let total = blocks(g);
+    for block in 0..total {
+        if is_dry_at(g, slots, waters, block) {
+            return block + 1;
+        }
+    }
+    0
 }

@@ -21,7 +21,7 @@ use Rattle.zone.specs.declared.lines.Lines.{Lines}
 use Rattle.zone.specs.Table.{linesBy}
 use Rattle.zone.specs.Zones.{markedOf}
 use Rattle.zone.proofs.LinesLaws.{lines-same}
-use Rattle.budget.specs.Answers.{eighteenOf, everywhere, markOf, marksOf, readOf, refusing, tabled}
+use Rattle.budget.specs.Answers.{caseRefusal, eighteenOf, everywhere, layerAnswer, layerZone, markOf, marksOf, readOf, refusing, tabled, wholeAnswer}
 use Rattle.budget.specs.Table.{flatOf, rowOf, tableTo}
 
 -- ---- marks put in
@@ -49,7 +49,7 @@ marks-at (suc n) z row h i l = step (ℕ-discrete i n) (marks-at n z row (omega 
     step (no q) before = getD-set-other (marksOf n z row) n i (markOf z n) (pos 0) q ∙ before (omega (arith, l, q))
 
 -- the blocks that are marked are those of the zone
-pub marks-marked : (n : ℕ) (z : ℕ → Bool) (row : List ℤ) → n ≤ length row → (i : ℕ) → i < n → markedOf (marksOf n z row) i ≡ z i
+marks-marked : (n : ℕ) (z : ℕ → Bool) (row : List ℤ) → n ≤ length row → (i : ℕ) → i < n → markedOf (marksOf n z row) i ≡ z i
 unfolding markedOf
 marks-marked n z row h i l = rw (marks-at n z row h i l) (go (z i))
   where
@@ -57,14 +57,24 @@ marks-marked n z row h i l = rw (marks-at n z row h i l) (go (z i))
     go true = refl
     go false = refl
 
-pub ones-marked : (i : ℕ) → i < mostBlocks → markedOf (replicate mostBlocks (pos 1)) i ≡ everywhere i
+ones-marked : (i : ℕ) → i < mostBlocks → markedOf (replicate mostBlocks (pos 1)) i ≡ everywhere i
 unfolding markedOf
 ones-marked i l = rw (getD-replicate mostBlocks i (pos 1) (pos 0) l)
 
 -- and only they count
-pub eighteen-same : (c : Case) → Counted (c .grid) → (z w : ℕ → Bool) → ((i : ℕ) → i < blocksOf (c .grid) → z i ≡ w i) → eighteenOf c z ≡ eighteenOf c w
+eighteen-same : (c : Case) → Counted (c .grid) → (z w : ℕ → Bool) → ((i : ℕ) → i < blocksOf (c .grid) → z i ≡ w i) → eighteenOf c z ≡ eighteenOf c w
 unfolding eighteenOf
 eighteen-same c counted z w alike = ap₂ (λ a b. rowOf a ++ rowOf b) (lines-same c counted z w alike fresh) (lines-same c counted z w alike salt)
+
+-- so that the marks of a layer give its lines, and marks of 1 those of the whole
+pub layer-marked : (c : Case) → Counted (c .grid) → (layer : ℕ) (row : List ℤ) → blocksOf (c .grid) ≤ length row
+    → eighteenOf c (markedOf (marksOf (blocksOf (c .grid)) (layerZone (c .grid) layer) row)) ≡ eighteenOf c (layerZone (c .grid) layer)
+layer-marked c counted layer row h =
+    let z = layerZone (c .grid) layer in
+    eighteen-same c counted (markedOf (marksOf (blocksOf (c .grid)) z row)) z (marks-marked (blocksOf (c .grid)) z row h)
+
+pub whole-marked : (c : Case) → Counted (c .grid) → eighteenOf c (markedOf (replicate mostBlocks (pos 1))) ≡ eighteenOf c everywhere
+whole-marked c counted = eighteen-same c counted (markedOf (replicate mostBlocks (pos 1))) everywhere (λ i l. ones-marked i (omega (arith, l, counted .blocks-most)))
 
 -- ---- answers, judged run by run
 
@@ -89,6 +99,15 @@ wet-tabled (suc b) lines l = absurd (omega arith)
 pub flat-table : (c : Case) (z : ℕ → Bool) → flatOf (tableTo (blocksOf (c .grid)) c z) ≡ eighteenOf c z
 unfolding flatOf tableTo eighteenOf linesBy
 flat-table c z = refl
+
+-- where a case is refused nothing, the lines of a layer and of the whole are given
+pub layer-given : (c : Case) (layer : ℕ) → caseRefusal c .number ≡ 0 → layerAnswer c layer .lines ≡ eighteenOf c (layerZone (c .grid) layer)
+unfolding layerAnswer
+layer-given c layer e = rw (eq-eqb (caseRefusal c .number) 0 e)
+
+pub whole-given : (c : Case) → caseRefusal c .number ≡ 0 → wholeAnswer c .lines ≡ eighteenOf c everywhere
+unfolding wholeAnswer
+whole-given c e = rw (eq-eqb (caseRefusal c .number) 0 e)
 
 -- where nothing is refused, the lines of a fluid are read back as they were put in
 pub read-lines : (r : Refusal) (f : ℕ → Lines) → r .number ≡ 0 → (fluid : ℕ) → fluid < 2 → readOf (tabled r (rowOf (f fresh) ++ rowOf (f salt))) fluid ≡ f fluid

@@ -1,6 +1,6 @@
 -- What the tables that a client is answered say (the client's demand 3; document 01, "Balance, verdict, table"). Assumes nothing.
 use mathlib.Core.Bool.{Bool, false, not, true}
-use mathlib.Core.List.{List}
+use mathlib.Core.List.{List, [], _∷_}
 use mathlib.Core.Logic.{_↔_}
 use mathlib.Core.Path.{_≡_, ap, refl}
 use Prim.Native.Nat.{_*_, _<_, _≤_, suc, zero, ℕ}
@@ -12,22 +12,24 @@ use lib.Signed.{_≤ℤ_, ltZ}
 use Rattle.whole.specs.Ranges.{between}
 use Rattle.whole.specs.Sum.{count}
 use Rattle.whole.specs.Whole.{In}
-use Rattle.whole.proofs.SearchLaws.{both, first-none, holds, joint, none-first, true-is}
+use Rattle.whole.proofs.SearchLaws.{both, holds, joint, true-is}
 use Rattle.whole.proofs.WithinLaws.{within-at}
 use Rattle.grid.specs.declared.Grid.{Grid}
 use Rattle.grid.specs.Place.{Counted, blocksOf}
 use Rattle.slots.specs.Slots.{blockOf}
-use Rattle.slices.specs.Slices.{Case}
+use Rattle.slices.specs.Slices.{Case, unless}
+use Rattle.slices.proofs.SlicesLaws.{here, holds-among, none-apart, none-together, unless-passes}
 use Rattle.block.specs.Fluids.{fresh, salt}
-use Rattle.wellformed.specs.Limits.{checkedOf}
+use Rattle.wellformed.specs.Limits.{checkedOf, checksOf, lentChecksOf}
 use Rattle.wellformed.specs.Links.{activeOf}
-use Rattle.wellformed.proofs.LimitsLaws.{checked-stands}
-use Rattle.books.specs.Waters.{dryAt}
+use Rattle.wellformed.proofs.LimitsLaws.{checked-stands, lent-stands, stands-lent}
+use Rattle.books.specs.Waters.{Wet, wellChecks}
+use Rattle.books.proofs.WatersLaws.{wells-wet, wet-wells}
 use Rattle.books.specs.Bookkeeping.{booksOf}
 use Rattle.books.specs.Own.{fixedOf}
 use Rattle.balance.specs.Balance.{balanceIn, balancesOf}
 use Rattle.balance.proofs.BalanceLaws.{balance-active, balance-in-fluid}
-use Rattle.verdict.specs.Acceptance.{Accepted, Wet}
+use Rattle.verdict.specs.Acceptance.{Accepted}
 use Rattle.verdict.specs.Places.{freeAt, sizeOf}
 use Rattle.verdict.specs.Ruling.{verdictAnswer}
 use Rattle.verdict.proofs.VerdictTheorems.{slices-accepted-exactly}
@@ -37,29 +39,37 @@ use Rattle.zone.specs.Zones.{inZone, markedOf}
 use Rattle.zone.proofs.LinesLaws.{lines-same}
 use Rattle.zone.proofs.ZoneTheorems.{adds, closes, conversions-cancel, edges-not-negative, error-bounded, whole-no-edges}
 use Rattle.budget.specs.declared.Answer.{Answer}
-use Rattle.budget.specs.Answers.{Tells, caseRefusal, dryOf, eighteenOf, everywhere, layerAnswer, layerZone, marksHold, marksReach, readOf, wholeAnswer, zoneAnswer, zoneRefusal}
+use Rattle.budget.specs.Answers.{Tells, caseRefusal, eighteenOf, everywhere, layerAnswer, layerZone, marksHold, marksReach, readOf, tableChecks, wholeAnswer, zoneAnswer, zoneRefusal}
 use Rattle.budget.proofs.AnswersLaws.{read-lines}
-use Rattle.budget.proofs.RefusalLaws.{case-clear, clear-case, clear-zone, zone-clear}
 
 -- ---- who is answered
 
 -- A zone's table is given exactly for a well-formed case without a dry well, with marks that reach over the grid and are 0 or 1.
 pub answered-exactly : (c : Case) (marks : List ℤ)
     → (zoneAnswer c marks .refusal .number ≡ 0) ↔ ((checkedOf c .number ≡ 0) × (Wet (c .grid) (c .slots) × (T (marksReach (c .grid) marks) × T (marksHold (c .grid) marks))))
-unfolding zoneAnswer dryOf
+unfolding zoneAnswer
 answered-exactly c marks = (
   λ e.
-      let h = zone-clear c marks e in
-      (h .0 .0, (first-none (dryAt (c .grid) (c .slots)) (blocksOf (c .grid)) (h .0 .1), h .1)),
-  λ h. clear-zone c marks (h .0) (none-first (dryAt (c .grid) (c .slots)) (blocksOf (c .grid)) (h .1 .0)) (h .1 .1 .0) (h .1 .1 .1),
+      let h = none-apart (lentChecksOf c reach) (tableChecks c marks) e in
+      let lent = lent-stands c reach (h .0) in
+      let table = none-apart (unless 11 hold ∷ []) (wellChecks c) (h .1) in
+      (lent .0, (wells-wet c (table .1), (lent .1, holds-among 11 hold (omega arith) here (table .0)))),
+  λ h.
+      none-together (lentChecksOf c reach) (tableChecks c marks) (stands-lent c reach (h .0) (h .1 .1 .0))
+      (none-together (unless 11 hold ∷ []) (wellChecks c) (unless-passes 11 hold (h .1 .1 .1)) (wet-wells c (h .1 .0))),
 )
+  where
+    reach : Bool
+    reach = marksReach (c .grid) marks
+
+    hold : Bool
+    hold = marksHold (c .grid) marks
 
 -- A layer's table, and the whole's, is given exactly for a well-formed case without a dry well.
 case-answered : (c : Case) → (caseRefusal c .number ≡ 0) ↔ ((checkedOf c .number ≡ 0) × Wet (c .grid) (c .slots))
-unfolding dryOf
 case-answered c = (
-  λ e. let h = case-clear c e in (h .0, first-none (dryAt (c .grid) (c .slots)) (blocksOf (c .grid)) (h .1)),
-  λ h. clear-case c (h .0) (none-first (dryAt (c .grid) (c .slots)) (blocksOf (c .grid)) (h .1)),
+  λ e. let h = none-apart (checksOf c) (wellChecks c) e in (h .0, wells-wet c (h .1)),
+  λ h. none-together (checksOf c) (wellChecks c) (h .0) (wet-wells c (h .1)),
 )
 
 pub layer-answered-exactly : (c : Case) (layer : ℕ) → (layerAnswer c layer .refusal .number ≡ 0) ↔ ((checkedOf c .number ≡ 0) × Wet (c .grid) (c .slots))

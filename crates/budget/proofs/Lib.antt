@@ -1,6 +1,5 @@
 -- Laws of tables and answers, the theorems about them, and worked numbers. They hold nothing to believe.
 pub mod TableLaws
-pub mod RefusalLaws
 pub mod AnswersLaws
 pub mod BudgetTheorems
 pub mod WorkedTheorems

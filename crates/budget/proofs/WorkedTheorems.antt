@@ -8,10 +8,11 @@ use Rattle.whole.specs.Sum.{back, sum}
 use Rattle.whole.specs.Whole.{clampOf}
 use Rattle.grid.specs.Judging.{countsHold, termsHold}
 use Rattle.grid.specs.Place.{behindOf, hasNext, hasPrevious, neighbourOf, nextOf, placeOf, previousOf, topOf}
+use Rattle.grid.specs.Record.{recordOf}
 use Rattle.slots.specs.Ranges.{endsHold, rangeOf}
 use Rattle.slots.specs.Rules.{allZero, boundaryHolds, layerHolds, openHolds, rulesHold, screenWithin, screensHold, slotsHold}
 use Rattle.slots.specs.Slots.{slotsAt}
-use Rattle.slices.specs.Slices.{Case, caseOf, contentsOf, faultOf, firstRefusal, none, orElse, roomHolds, shapeOf, widthsHold}
+use Rattle.slices.specs.Slices.{Case, caseOf, contentsOf, faultOf, firstRefusal, lentOf, none, orElse, roomHolds, shapeOf, widthsHold}
 use Rattle.slices.proofs.WorkedTheorems.{printedCase}
 use Rattle.block.specs.Density.{freshEquivalentOf, interfaceOf, saltKOf, seaHeadOf}
 use Rattle.block.specs.Geometry.{aquiferTopOf, hasWaterTable, heldOf, levelsOf, saturatedTopOf, thicknessesOf}
@@ -24,7 +25,7 @@ use Rattle.flow.specs.Litres.{leavingOf, litresOf, overAreaOf}
 use Rattle.wellformed.specs.Limits.{aboveExceeds, atFault, blockExceeds, boundaryExceeds, eitherExceeds, faceExceeds, firstAtFault, greatestOf, limitsOf, overlaps}
 use Rattle.wellformed.specs.Links.{liveOf}
 use Rattle.wellformed.specs.Widths.{areaAt}
-use Rattle.books.specs.Waters.{dryAt, levelsAt, watersOf}
+use Rattle.books.specs.Waters.{dryAt, dryOf, levelsAt, watersOf}
 use Rattle.books.specs.Bookkeeping.{booksOf, broughtOf}
 use Rattle.books.specs.Links.{lateralAt, leakageAt, namedOf, sideOf, tipBehindOf}
 use Rattle.books.specs.Own.{fixedOf, ownOf, pumpedAt, storageAt}
@@ -34,7 +35,7 @@ use Rattle.zone.specs.Holdings.{ownIn, settledOf}
 use Rattle.zone.specs.Table.{linesBy, termsOf, totalsOf}
 use Rattle.zone.specs.Zones.{inZone, markedOf}
 use Rattle.budget.specs.declared.Answer.{Answer}
-use Rattle.budget.specs.Answers.{dryOf, eighteenOf, layerAnswer, layerZone, wholeAnswer, zoneAnswer, zoneChecks}
+use Rattle.budget.specs.Answers.{eighteenOf, layerAnswer, layerZone, wholeAnswer, zoneAnswer}
 use Rattle.budget.specs.Table.{rowOf}
 
 -- lines beside no refusal
@@ -56,7 +57,7 @@ printed-tables = (refl, refl)
 -- another program, written from document 01.
 abbrev twelveBlocks : Case
 twelveBlocks =
-    caseOf (record { columns = 2; rows = 2; layers = 3; delta = pos 1; flag = 1; step = pos 1; tolerance = pos 1000000000 }) (pos 100 ∷ pos 100 ∷ []) (pos 100 ∷ pos 100 ∷ [])
+    caseOf (recordOf 2 2 3 (pos 1) 1 (pos 1) (pos 1000000000)) (pos 100 ∷ pos 100 ∷ []) (pos 100 ∷ pos 100 ∷ [])
     (pos 22197 ∷ negℤ (pos 277932) ∷ pos 40960 ∷ pos 1000 ∷ pos 1000000 ∷ pos 0 ∷ pos 0 ∷ pos 0 ∷ pos 0 ∷ pos 3 ∷ pos 0 ∷ pos 0 ∷ negℤ (pos 14090) ∷ negℤ (pos 131573) ∷ negℤ (pos 14090) ∷ negℤ (pos 132059)
     ∷ pos 1493 ∷ negℤ (pos 277932) ∷ pos 245760 ∷ pos 200 ∷ pos 52954 ∷ pos 0 ∷ pos 150 ∷ negℤ (pos 277932) ∷ negℤ (pos 32172) ∷ pos 5 ∷ pos 0 ∷ pos 0 ∷ negℤ (pos 14016) ∷ negℤ (pos 112968) ∷ negℤ (pos 14016) ∷ negℤ (pos 112968)
     ∷ pos 25668 ∷ negℤ (pos 257932) ∷ pos 108850 ∷ pos 200 ∷ pos 0 ∷ pos 0 ∷ pos 0 ∷ pos 0 ∷ pos 0 ∷ pos 0 ∷ pos 0 ∷ pos 0 ∷ negℤ (pos 14035) ∷ negℤ (pos 103559) ∷ negℤ (pos 14035) ∷ negℤ (pos 103559)
@@ -77,5 +78,5 @@ sevenMarks = pos 1 ∷ pos 1 ∷ pos 0 ∷ pos 1 ∷ pos 0 ∷ pos 0 ∷ pos 1 �
 pub seven-of-twelve : zoneAnswer twelveBlocks sevenMarks ≡ given (
     pos 1590585 ∷ pos 437293318 ∷ pos 5279 ∷ pos 10825962 ∷ pos 999892 ∷ pos 50000 ∷ pos 0 ∷ negℤ (pos 432589338) ∷ pos 14983970
     ∷ negℤ (pos 1590303) ∷ pos 86616726 ∷ pos 6825939 ∷ negℤ (pos 10825962) ∷ negℤ (pos 41) ∷ pos 0 ∷ negℤ (pos 624) ∷ pos 299004 ∷ pos 70853467 ∷ [])
-unfolding firstOf inRange placeOf slotsAt orElse firstRefusal hasNext nextOf aquiferTopOf saltKOf overAreaOf faceKOf conductanceOf areaAt liveOf overlaps greatestOf eitherExceeds faceExceeds aboveExceeds boundaryExceeds blockExceeds atFault firstAtFault limitsOf every allWithin topOf rangeOf endsHold screenWithin screensHold layerHolds openHolds boundaryHolds rulesHold allZero slotsHold countsHold termsHold roomHolds widthsHold faultOf shapeOf contentsOf sum back clampOf hasPrevious previousOf neighbourOf behindOf interfaceOf freshEquivalentOf seaHeadOf hasWaterTable saturatedTopOf heldOf levelsOf thicknessesOf volumeOf storageOf lengthWithin lengthsOf freshShareOf sharesOf belowTop rechargeOf boundaryHeadOf exchangeOf gainOf boundaryOf tipOf faceThicknessOf faceConductanceOf lateralOf uppermostOf lowermostOf differenceOf leakageOf litresOf leavingOf levelsAt watersOf booksOf broughtOf sideOf tipBehindOf lateralAt leakageAt namedOf pumpedAt storageAt ownOf fixedOf throughOf flowsOf balanceIn inZone atEdge edgeOf edgesOf changes convertedAt ownIn settledOf termsOf totalsOf linesBy rowOf eighteenOf markedOf isDry dryAt dryOf zoneChecks zoneAnswer
+unfolding firstOf inRange placeOf slotsAt orElse firstRefusal hasNext nextOf aquiferTopOf saltKOf overAreaOf faceKOf conductanceOf areaAt liveOf overlaps greatestOf eitherExceeds faceExceeds aboveExceeds boundaryExceeds blockExceeds atFault firstAtFault limitsOf every allWithin topOf rangeOf endsHold screenWithin screensHold layerHolds openHolds boundaryHolds rulesHold allZero slotsHold countsHold termsHold roomHolds widthsHold faultOf shapeOf contentsOf sum back clampOf hasPrevious previousOf neighbourOf behindOf interfaceOf freshEquivalentOf seaHeadOf hasWaterTable saturatedTopOf heldOf levelsOf thicknessesOf volumeOf storageOf lengthWithin lengthsOf freshShareOf sharesOf belowTop rechargeOf boundaryHeadOf exchangeOf gainOf boundaryOf tipOf faceThicknessOf faceConductanceOf lateralOf uppermostOf lowermostOf differenceOf leakageOf litresOf leavingOf levelsAt watersOf booksOf broughtOf sideOf tipBehindOf lateralAt leakageAt namedOf pumpedAt storageAt ownOf fixedOf throughOf flowsOf balanceIn inZone atEdge edgeOf edgesOf changes convertedAt ownIn settledOf termsOf totalsOf linesBy rowOf eighteenOf markedOf isDry dryAt dryOf lentOf zoneAnswer
 seven-of-twelve = refl

@@ -7,15 +7,13 @@ use lib.Dec.{eqb, leb}
 use lib.IntN.{pos, ℤ}
 use lib.ListN.{getD, length, replicate, set}
 use Rattle.whole.specs.Ranges.{allWithin, between}
-use Rattle.whole.specs.Search.{firstOf}
 use Rattle.grid.specs.declared.Grid.{Grid}
 use Rattle.grid.specs.Place.{blocksOf, placeOf}
 use Rattle.slices.specs.declared.Refusal.{Refusal}
-use Rattle.slices.specs.Slices.{Case, blaming, contentsOf, firstRefusal, shapeOf, unless, unlessRefused}
+use Rattle.slices.specs.Slices.{Case, firstRefusal, unless, unlessRefused}
 use Rattle.block.specs.Fluids.{fresh, salt}
-use Rattle.wellformed.specs.Limits.{checkedOf, checksOf, limitsOf}
-use Rattle.books.specs.Waters.{dryAt}
-use Rattle.verdict.specs.Acceptance.{Wet}
+use Rattle.wellformed.specs.Limits.{checkedOf, checksOf, lentChecksOf}
+use Rattle.books.specs.Waters.{Wet, wellChecks}
 use Rattle.zone.specs.declared.lines.Lines.{Lines}
 use Rattle.zone.specs.Table.{linesOf}
 use Rattle.zone.specs.Zones.{markedOf}
@@ -32,23 +30,13 @@ marksReach g marks = leb (blocksOf g) (length marks)
 abbrev pub marksHold : Grid → List ℤ → Bool
 marksHold g marks = allWithin (between (pos 0) (pos 1)) marks (blocksOf g)
 
--- 13: "a table is asked for with a dry well"; "Refusals 6, 9, 10, 13 and 14 name the first block at fault"
-unfoldable pub dryOf : Grid → List ℤ → ℕ
-dryOf g slots = firstOf (blocksOf g) (dryAt g slots)
+-- "then, for a table, 11 before 13", of a case that is not refused before
+abbrev pub tableChecks : Case → List ℤ → List Refusal
+tableChecks c marks = unless 11 (marksHold (c .grid) marks) ∷ wellChecks c
 
--- 13, judged last: "11 before 13"
-abbrev pub wellChecks : Case → List Refusal
-wellChecks c = blaming 13 (dryOf (c .grid) (c .slots)) ∷ []
-
--- "Slices are judged 3, 7, 4, 5, 6, 9, 10; then, for a table, 11", with the marks' 7 in 7's place
-unfoldable pub zoneChecks : Case → List ℤ → List Refusal
-zoneChecks c marks =
-    shapeOf c ++ (unless 7 (marksReach (c .grid) marks) ∷ [])
-    ++ ((contentsOf c ++ limitsOf c) ++ (unless 11 (marksHold (c .grid) marks) ∷ []))
-
--- what a table of a zone is refused with: "11 before 13"
+-- what a table of a zone is refused with: "Slices are judged 3, 7, 4, 5, 6, 9, 10; then, for a table, 11 before 13", with the marks' 7 in 7's place
 abbrev pub zoneRefusal : Case → List ℤ → Refusal
-zoneRefusal c marks = firstRefusal (zoneChecks c marks ++ wellChecks c)
+zoneRefusal c marks = firstRefusal (lentChecksOf c (marksReach (c .grid) marks) ++ tableChecks c marks)
 
 -- what a table of a layer or of the whole is refused with: "Slices are judged 3, 7, 4, 5, 6, 9, 10; then, for a table, 11 before 13", but no marks
 -- are lent
@@ -89,6 +77,10 @@ refusing r = record { refusal = r; lines = noLines }
 -- a refusal, or lines beside none
 abbrev pub tabled : Refusal → List ℤ → Answer
 tabled r lines = record { refusal = r; lines = unlessRefused r lines noLines }
+
+-- what is answered for a zone of a case that is not refused before its marks are looked at
+unfoldable pub zoneOfCase : Case → List ℤ → Answer
+zoneOfCase c marks = tabled (firstRefusal (tableChecks c marks)) (eighteenOf c (markedOf marks))
 
 -- what is answered for a zone by its marks, for a layer, and for the whole
 unfoldable pub zoneAnswer : Case → List ℤ → Answer

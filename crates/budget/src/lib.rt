@@ -8,18 +8,18 @@ ghost use lib.ListN.{length};
 ghost use Rattle.grid.specs.Place.{Counted, blocksOf};
 ghost use Rattle.slices.specs.Slices.{caseOf, firstRefusal};
 ghost use Rattle.wellformed.specs.Limits.{WellFormed};
-ghost use Rattle.books.specs.Waters.{Slotted, Watered};
+ghost use Rattle.books.specs.Waters.{wellChecks};
 ghost use Rattle.zone.specs.Zones.{markedOf};
+ghost use Rattle.zone.specs.Table.{Ready, Worked};
 ghost use Rattle.budget.specs.Answers.{
-  dryOf,
-  wellChecks,
-  zoneChecks,
   layerZone,
   markOf,
   marksOf,
+  everywhere,
   eighteenOf,
   refusing,
   tabled,
+  zoneOfCase,
   zoneAnswer,
   layerAnswer,
   wholeAnswer,
@@ -27,15 +27,16 @@ ghost use Rattle.budget.specs.Answers.{
 use balance::balances::fill_balances;
 use books::rows::ROW;
 use books::waters::fill_waters;
-use books::waters::is_dry_at;
+use books::waters::first_dry;
 use grid::Grid;
 use grid::place::blocks;
 use grid::place::place_of;
 use grid::units::MOST_BLOCKS;
 use slices::Refusal;
-use slices::shape;
+use slices::reaches_over;
 use table::flat;
 use table::table;
+use wellformed::check_lent;
 use wellformed::check_slices;
 use whole::ranges::Range;
 use whole::ranges::all_within;
@@ -60,50 +61,21 @@ fn refused(refusal: Refusal) -> Answer
     }
 }
 
-// 13: "a table is asked for with a dry well": the first block at fault, or 0. Inner: the slots are in range and the row holds their
-// thicknesses.
-fn first_dry(g: Grid, slots: &[i64], waters: &[i64]) -> usize
-    requires { ⌜ Slotted g (now slots) ⌝ }
-    requires { ⌜ Watered g (now slots) (now waters) ⌝ }
-    ensures { λ r. ⌜ r ≡ dryOf g (now (slots .entry)) ⌝ }
+// The eighteen lines of a zone of a case whose thicknesses and balances stand in rows. Inner: the case is well formed, the rows hold its
+// thicknesses and its balances, and the marks reach over the grid.
+pub fn table_on(
+    g: Grid,
+    columns: &[i64],
+    rows: &[i64],
+    slots: &[i64],
+    waters: &[i64],
+    balances: &[i64],
+    marks: &[i64],
+) -> [i64; 18]
+    requires { ⌜ Ready (caseOf g (now columns) (now rows) (now slots)) (now waters) (now balances) (now marks) ⌝ }
+    ensures { λ r. ⌜ r ≡ eighteenOf (caseOf g (now (columns .entry)) (now (rows .entry)) (now (slots .entry))) (markedOf (now (marks .entry))) ⌝ }
 {
-    let total = blocks(g);
-    for block in 0..total {
-        if is_dry_at(g, slots, waters, block) {
-            return block + 1;
-        }
-    }
-    0
-}
-
-// What a zone of a case in slices is refused with before its wells are looked at: 3, 7, the marks' too, 4, 5, 6, 9, 10, then 11.
-fn judge_zone(g: Grid, columns: &[i64], rows: &[i64], slots: &[i64], marks: &[i64]) -> Refusal
-    ensures { λ r. ⌜ r ≡ firstRefusal (zoneChecks (caseOf g (now (columns .entry)) (now (rows .entry)) (now (slots .entry))) (now (marks .entry))) ⌝ }
-{
-    let first = shape(g, columns, rows, slots);
-    if first.number != 0 {
-        return first;
-    }
-    if marks.len() < blocks(g) {
-        return Refusal {
-            number: 7,
-            block: 0,
-        };
-    }
-    let refusal = check_slices(g, columns, rows, slots);
-    if refusal.number != 0 {
-        return refusal;
-    }
-    if !all_within(marks, blocks(g), MARKS) {
-        return Refusal {
-            number: 11,
-            block: 0,
-        };
-    }
-    Refusal {
-        number: 0,
-        block: 0,
-    }
+    flat(table(g, columns, rows, slots, waters, balances, marks))
 }
 
 // The table of a zone of a well-formed case, or 13 with the first dry block. Thicknesses and balances of every block are worked out once, into
@@ -121,14 +93,29 @@ fn account(g: Grid, columns: &[i64], rows: &[i64], slots: &[i64], marks: &[i64])
     }
     let mut balances = [0i64; ROW];
     fill_balances(g, columns, rows, slots, &waters, &mut balances);
-    let both = table(g, columns, rows, slots, &waters, &balances, marks);
     Answer {
         refusal: Refusal {
             number: 0,
             block: 0,
         },
-        lines: flat(both),
+        lines: table_on(g, columns, rows, slots, &waters, &balances, marks),
     }
+}
+
+// "then, for a table, 11 before 13": the table of a zone of a case that is not refused before its marks are looked at. Inner: the case is well formed
+// and the marks reach over the grid.
+pub fn zone_of_case(g: Grid, columns: &[i64], rows: &[i64], slots: &[i64], marks: &[i64]) -> Answer
+    requires { ⌜ WellFormed (caseOf g (now columns) (now rows) (now slots)) ⌝ }
+    requires { ⌜ blocksOf g ≤ length (now marks) ⌝ }
+    ensures { λ r. ⌜ r ≡ zoneOfCase (caseOf g (now (columns .entry)) (now (rows .entry)) (now (slots .entry))) (now (marks .entry)) ⌝ }
+{
+    if !all_within(marks, blocks(g), MARKS) {
+        return refused(Refusal {
+            number: 11,
+            block: 0,
+        });
+    }
+    account(g, columns, rows, slots, marks)
 }
 
 // The table of a zone of a case in slices, or what it is refused with: 3, 7, 4, 5, 6, 9, 10, 11 or 13, and the block that the refusal names.
@@ -137,11 +124,12 @@ fn account(g: Grid, columns: &[i64], rows: &[i64], slots: &[i64], marks: &[i64])
 pub fn zone_table(g: Grid, columns: &[i64], rows: &[i64], slots: &[i64], marks: &[i64]) -> Answer
     ensures { λ r. ⌜ r ≡ zoneAnswer (caseOf g (now (columns .entry)) (now (rows .entry)) (now (slots .entry))) (now (marks .entry)) ⌝ }
 {
-    let refusal = judge_zone(g, columns, rows, slots, marks);
+    let reaches = reaches_over(g, 1, marks.len());
+    let refusal = check_lent(g, columns, rows, slots, reaches);
     if refusal.number != 0 {
         return refused(refusal);
     }
-    account(g, columns, rows, slots, marks)
+    zone_of_case(g, columns, rows, slots, marks)
 }
 
 // The mark of a block in the zone of a layer, counted from 1 at the bottom. Inner: the counts are in range and the block is inside.
@@ -154,7 +142,7 @@ fn mark_in_layer(g: Grid, layer: usize, block: usize) -> i64
     if place.layer + 1 == layer { 1 } else { 0 }
 }
 
-// Puts in the marks of a layer. Inner: the counts are in range and the marks reach over the grid.
+// Puts in the marks of a layer, counted from 1 at the bottom. Inner: the counts are in range and the marks reach over the grid.
 fn fill_layer_marks(g: Grid, layer: usize, marks: &mut [i64])
     requires { ⌜ Counted g ⌝ }
     requires { ⌜ blocksOf g ≤ length (now marks) ⌝ }
@@ -165,6 +153,41 @@ fn fill_layer_marks(g: Grid, layer: usize, marks: &mut [i64])
         let mark = mark_in_layer(g, layer, block);
         marks[block] = mark;
     }
+}
+
+// The eighteen lines of one layer of a case whose thicknesses and balances stand in rows, layers counted from 1 at the bottom. Inner: the case is
+// well formed and the rows hold its thicknesses and its balances.
+pub fn layer_on(
+    g: Grid,
+    columns: &[i64],
+    rows: &[i64],
+    slots: &[i64],
+    waters: &[i64],
+    balances: &[i64],
+    layer: usize,
+) -> [i64; 18]
+    requires { ⌜ Worked (caseOf g (now columns) (now rows) (now slots)) (now waters) (now balances) ⌝ }
+    ensures { λ r. ⌜ r ≡ eighteenOf (caseOf g (now (columns .entry)) (now (rows .entry)) (now (slots .entry))) (layerZone g layer) ⌝ }
+{
+    let mut marks = [0i64; MOST_BLOCKS];
+    fill_layer_marks(g, layer, &mut marks);
+    table_on(g, columns, rows, slots, waters, balances, &marks)
+}
+
+// The same of the whole grid.
+pub fn whole_on(
+    g: Grid,
+    columns: &[i64],
+    rows: &[i64],
+    slots: &[i64],
+    waters: &[i64],
+    balances: &[i64],
+) -> [i64; 18]
+    requires { ⌜ Worked (caseOf g (now columns) (now rows) (now slots)) (now waters) (now balances) ⌝ }
+    ensures { λ r. ⌜ r ≡ eighteenOf (caseOf g (now (columns .entry)) (now (rows .entry)) (now (slots .entry))) everywhere ⌝ }
+{
+    let marks = [1i64; MOST_BLOCKS];
+    table_on(g, columns, rows, slots, waters, balances, &marks)
 }
 
 // The table of one layer of a case in slices, counted from 1 at the bottom, or what the case is refused with: 3, 7, 4, 5, 6, 9, 10 or 13. A

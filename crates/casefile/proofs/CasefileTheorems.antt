@@ -1,11 +1,10 @@
 -- What the reader of a case file promises, whatever bytes and slices it is given (document 01, "The case file" and "Refusal numbers"). Assumes nothing.
 use mathlib.Core.List.{List}
-use mathlib.Core.Path.{_∙_, _≡_, ap, refl, sym}
-use Prim.Native.Nat.{_*_, _<_, _≤_, ℕ}
+use mathlib.Core.Path.{_∙_, _≡_, refl, sym}
+use Prim.Native.Nat.{_*_, _≤_, ℕ}
 use native.Mathlib.Omega.{arith}
 use lib.IntN.{pos, ℤ}
-use lib.ListN.{List·getD-append, drop, getD, length, length-append}
-use lib.Seq.{drop-at}
+use lib.ListN.{drop, length}
 use Rattle.whole.specs.Lent.{over}
 use Rattle.whole.proofs.LentLaws.{over-behind, over-room, over-same}
 use Rattle.grid.specs.declared.Grid.{Grid}
@@ -61,9 +60,9 @@ module _ (g : Grid) (c r s columns rows slots : List ℤ) (sizes : (length c ≡
   over-alike : Alike (caseOf g c r s) (caseOf g (over c columns) (over r rows) (over s slots))
   over-alike = record {
     grid = refl;
-    columns = over-same (g .columns) c columns (sizes .0);
-    rows = over-same (g .rows) r rows (sizes .1 .0);
-    slots = over-same (slotsEach * blocksOf g) s slots (sizes .1 .1);
+    columns = over-same (pos 0) (g .columns) c columns (sizes .0);
+    rows = over-same (pos 0) (g .rows) r rows (sizes .1 .0);
+    slots = over-same (pos 0) (slotsEach * blocksOf g) s slots (sizes .1 .1);
   }
 
 -- What was read passes `check_slices` with the same record, in the lent slices as they then are.

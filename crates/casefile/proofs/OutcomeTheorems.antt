@@ -4,10 +4,6 @@ use mathlib.Core.Path.{_∙_, sym}
 use denote.Ref.{now}
 use Rattle.whole.specs.Outcome.{OneContent, OneResult}
 use Rattle.casefile.proofs.read_case.Reads.{Learnt as read-case}
-use Rattle.casefile.proofs.runs.ending.Reads.{Learnt as ending}
-
-pub one-outcome-ending : OneResult ending
-one-outcome-ending κs a z w e f p q = p ∙ sym q
 
 -- the answer, and what is then in the lent column widths, row widths and slots
 pub one-outcome-read-case :

@@ -1,6 +1,6 @@
 -- Laws of the whole reading: a case that was read is judged, what follows a refusal and a run, and what every answer is. Assumes nothing.
 use mathlib.Core.Bool.{Bool, _&&_, false, not, true}
-use mathlib.Core.List.{List, [], _++_, _∷_, append-nil}
+use mathlib.Core.List.{List, [], _++_, _∷_}
 use mathlib.Core.Path.{_∙_, _≡_, ap, ap₂, refl, sym}
 use Prim.Native.Nat.{_*_, _<_, _≤_, suc, zero, ℕ}
 use native.Mathlib.Decide.{ℕ-discrete}
@@ -8,7 +8,7 @@ use native.Mathlib.Nat.{le-of-eq}
 use native.Mathlib.Omega.{arith}
 use lib.Dec.{T, leb}
 use lib.IntN.{pos, ℤ}
-use lib.ListN.{drop, drop-of-length-le, getD, length, take}
+use lib.ListN.{drop, getD, length, take}
 use lib.Seq.{take-at}
 use borrow.Author.Tests.{eq-eqb, ne-eqb}
 use Rattle.whole.specs.Lent.{over}
@@ -17,10 +17,10 @@ use Rattle.whole.specs.Whole.{In}
 use Rattle.whole.proofs.OrderLaws.{in-abs}
 use Rattle.whole.proofs.RangeLaws.{leaf, within}
 use Rattle.whole.proofs.SearchLaws.{every-passes, follows, none-first, true-is}
-use Rattle.whole.proofs.WithinLaws.{range-in}
 use Rattle.grid.specs.declared.Grid.{Grid}
 use Rattle.grid.specs.Judging.{Termed, countsHold, termsHold}
 use Rattle.grid.specs.Place.{Counted, blocksOf, topOf}
+use Rattle.grid.specs.Record.{counts, terms}
 use Rattle.grid.proofs.JudgingLaws.{counted-counts, termed-terms}
 use Rattle.slots.specs.Rules.{slotsHold}
 use Rattle.slots.specs.Slots.{partOf}
@@ -29,35 +29,16 @@ use Rattle.slices.specs.declared.Refusal.{Refusal}
 use Rattle.slices.specs.Slices.{Case, Judged, Roomy, blaming, caseOf, contentsOf, faultOf, firstRefusal, mostWidth, none, orElse, roomHolds, shapeOf, unless, widthsHold, judgedOf}
 use Rattle.slices.proofs.SlicesLaws.{none-refused, none-together, or-first, or-next, contents-pass, judged-stands, shape-passes}
 use Rattle.wellformed.specs.Limits.{checkedOf, checksOf, firstAtFault, limitsOf}
-use Rattle.casefile.specs.declared.fields.Part.{Part}
-use Rattle.casefile.specs.declared.fields.Part.the-variants.{Counts, Terms, Widths}
-use Rattle.casefile.specs.declared.runs.Run.{Run}
-use Rattle.casefile.specs.declared.runs.Run.the-variants.{Done, Refused}
-use Rattle.casefile.specs.Fields.{Within, counts, endsOf, recordRange, isSent, terms}
+use Rattle.fields.specs.declared.Part.{Part}
+use Rattle.fields.specs.declared.Part.the-variants.{Counts, Terms, Widths}
+use Rattle.fields.specs.declared.runs.Run.{Run}
+use Rattle.fields.specs.declared.runs.Run.the-variants.{Done, Refused}
+use Rattle.fields.specs.Fields.{Within, endsOf, recordRange}
+use Rattle.fields.specs.Runs.{endingOf, fillOf}
+use Rattle.fields.proofs.FilledLaws.{Early, Numbered, Telling, blocks-before, blocks-hold, blocks-length, blocks-telling, done-before, done-numbered, done-telling, early-numbered, ended-done, fill-of-length, fill-of-numbered, fill-of-telling, fill-within, number-in, terms-sent, widths-sent}
 use Rattle.casefile.specs.Reading.{Read, giving, after, bodyOf, caseFrom, columnsFrom, countedOf, judging, readingOf, refusing, rowsFrom, storedOf, slotsFrom, termedOf, afterCounts}
-use Rattle.casefile.specs.Runs.{endingOf, fillOf}
-use Rattle.casefile.proofs.FilledLaws.{Early, Numbered, Telling, blocks-before, blocks-hold, blocks-length, blocks-telling, done-before, done-numbered, done-telling, early-numbered, fill-of-length, fill-of-numbered, fill-of-telling, fill-within}
 
 -- ---- a case that was read
-
--- every count is sent
-pub counts-sent : (d : List ℤ) → isSent Counts d ≡ true
-unfolding isSent
-counts-sent d = refl
-
--- every term is sent
-pub terms-sent : (d : List ℤ) → isSent Terms d ≡ true
-unfolding isSent
-terms-sent d = refl
-
--- every width is sent
-pub widths-sent : (d : List ℤ) → isSent Widths d ≡ true
-unfolding isSent
-widths-sent d = refl
-
--- a number of a part, by its range
-pub number-in : (part : Part) (n : ℕ) (v : List ℤ) → Within part n v → (k : ℕ) → k < n → In (endsOf part k .lower) (endsOf part k .upper) (getD v k (pos 0))
-number-in part n v w k l = range-in (endsOf part k) (getD v k (pos 0)) (w k l)
 
 -- terms within their ends are what later parts require
 pub termed-within : (g : Grid) (v : List ℤ) → Within Terms terms v → Termed (termedOf g v)
@@ -114,12 +95,6 @@ body-judged g file at next counted termed e =
 pub case-judged : (g : Grid) (file : List ℕ) (at next : ℕ) → Counted g → Termed g → slotsFrom g file at .run ≡ Done next → Judged (caseFrom g file at)
 case-judged g file at next counted termed e = judged-stands (caseFrom g file at) (body-judged g file at next (counted-counts g counted) (termed-terms g termed) e)
 
--- a run that fills a slice to its end leaves in it just what was read
-pub fill-of-whole : (from : Run) (part : Part) (file : List ℕ) (total next : ℕ) (l : List ℤ) → length l ≡ total → fillOf from part file total .run ≡ Done next → over (fillOf from part file total .values) l ≡ fillOf from part file total .values
-fill-of-whole from part file total next l h e =
-    let values = fillOf from part file total .values in
-    rw (drop-of-length-le l {i = length values} (omega (arith, h, fill-of-length from part file total next e))) (append-nil values)
-
 -- the terms change neither the counts nor the room
 pub termed-counted : (g : Grid) (v : List ℤ) → Counted g → Counted (termedOf g v)
 unfolding termedOf
@@ -137,12 +112,6 @@ termed-counted g v h =
 pub termed-roomy : (g : Grid) (v columns rows slots : List ℤ) → Roomy (caseOf g columns rows slots) → Roomy (caseOf (termedOf g v) columns rows slots)
 unfolding termedOf
 termed-roomy g v columns rows slots h = record { columns = h .columns; rows = h .rows; slots = h .slots }
-
--- a run over the whole file that nothing refuses is done
-pub ended-done : (run : Run) (file : List ℕ) → Numbered run → endingOf run file .number ≡ 0 → (next : ℕ) × (run ≡ Done next)
-unfolding endingOf
-ended-done (Refused r) file h e = absurd (h r refl e)
-ended-done (Done at) file h e = (at, refl)
 
 -- the run over a file's body tells what the refusals 1 to 6 do
 pub body-telling : (Tells : ℕ → Type 0) → Early Tells → (g : Grid) (file : List ℕ) (at : ℕ) → Telling Tells (slotsFrom g file at .run)

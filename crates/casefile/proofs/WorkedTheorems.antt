@@ -1,11 +1,9 @@
--- Numbers worked by hand (document 01), by the definitions: the printed case file, and which fields are signed. Assumes nothing.
-use mathlib.Core.Bool.{cond}
+-- Numbers worked by hand (document 01), by the definitions: the printed case file. Assumes nothing.
 use mathlib.Core.List.{List, [], _++_, _∷_}
 use mathlib.Core.Path.{_≡_, refl}
-use Prim.Native.Nat.{suc, zero, ℕ}
+use Prim.Native.Nat.{ℕ}
 use lib.IntN.{pos, ℤ}
 use lib.ListN.{replicate, take}
-use lib.Signed.{ltZ}
 use Rattle.whole.specs.Ranges.{inRange}
 use Rattle.whole.specs.Search.{every, firstOf}
 use Rattle.numbers.specs.Numbers.{numberFrom, signedOf}
@@ -14,7 +12,6 @@ use Rattle.grid.specs.Place.{hasNext, nextOf, placeOf, topOf}
 use Rattle.slots.specs.Ranges.{endsHold, rangeOf}
 use Rattle.slots.specs.Rules.{boundaryHolds, layerHolds, rulesHold, screenWithin, screensHold, slotsHold}
 use Rattle.slots.specs.Slots.{slotsAt}
-use Rattle.slots.specs.Units.{slotsEach}
 use Rattle.slices.specs.Slices.{firstRefusal, orElse, refusal, roomHolds, shapeOf}
 use Rattle.slices.proofs.WorkedTheorems.{printedCase}
 use Rattle.block.specs.Density.{saltKOf}
@@ -23,9 +20,9 @@ use Rattle.flow.specs.Litres.{overAreaOf}
 use Rattle.wellformed.specs.Limits.{aboveExceeds, atFault, blockExceeds, boundaryExceeds, eitherExceeds, faceExceeds, firstAtFault, greatestOf, limitsOf, overlaps}
 use Rattle.wellformed.specs.Links.{liveOf}
 use Rattle.wellformed.specs.Widths.{areaAt}
-use Rattle.casefile.specs.Fields.{endsOf, fieldAt, recordRange, isSent, judgedIn, numberJudged, meantOf, slotSent}
+use Rattle.fields.specs.Fields.{endsOf, fieldAt, recordRange, isSent, judgedIn, numberJudged, meantOf, slotSent}
+use Rattle.fields.specs.Runs.{blockFrom, blocksFrom, endingOf, fillFrom, fillOf, ruled}
 use Rattle.casefile.specs.Reading.{giving, after, bodyOf, caseFrom, countedOf, judging, readingOf, storedOf, termedOf, afterCounts}
-use Rattle.casefile.specs.Runs.{blockFrom, blocksFrom, endingOf, fillFrom, fillOf, ruled}
 
 -- "This case file holds 2 1 1 40 0 30 5, 100 100, 100, then 10000 -204800 245760 200 0 0 0 0 0 5 8192 0 8192 0, then 10000 -204800 245760 200 0 0 150 -4096 4096 0
 -- 8191 0 8191 0."
@@ -58,13 +55,3 @@ cut-short = refl
 pub one-more : readingOf (printed ++ (0 ∷ [])) (lent 2) (lent 1) (lent 32) .answer .refusal ≡ refusal 8 0
 unfolding every inRange numberFrom signedOf placeOf topOf countsHold rangeOf endsHold slotsAt screenWithin screensHold layerHolds boundaryHolds rulesHold slotsHold orElse firstRefusal roomHolds shapeOf recordRange slotSent isSent endsOf meantOf judgedIn numberJudged fieldAt fillFrom fillOf ruled blockFrom blocksFrom endingOf judging after countedOf termedOf bodyOf afterCounts readingOf
 one-more = refl
-
--- the first n slots whose lower end is below zero
-abbrev signedBefore : ℕ → List ℕ
-signedBefore zero = []
-signedBefore (suc slot) = signedBefore slot ++ cond (ltZ (rangeOf slot .lower) (pos 0)) (slot ∷ []) []
-
--- "Signed fields (base, pumpage, screens, stage or floor, heads)", by their slots
-pub signed-fields : signedBefore slotsEach ≡ 1 ∷ 6 ∷ 7 ∷ 8 ∷ 10 ∷ 12 ∷ 13 ∷ 14 ∷ 15 ∷ []
-unfolding rangeOf
-signed-fields = refl

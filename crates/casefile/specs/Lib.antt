@@ -1,4 +1,2 @@
 -- The definitions of `casefile`, for the crates above.
-pub mod Fields
-pub mod Runs
 pub mod Reading

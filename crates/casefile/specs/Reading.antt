@@ -5,15 +5,15 @@ use lib.IntN.{natAbs, pos, ℤ}
 use lib.ListN.{getD}
 use Rattle.grid.specs.declared.Grid.{Grid}
 use Rattle.grid.specs.Place.{blocksOf}
+use Rattle.grid.specs.Record.{counts, noGrid, onlyCounts, recordOf, terms}
 use Rattle.slices.specs.declared.Refusal.{Refusal}
 use Rattle.slices.specs.Slices.{Case, caseOf, firstRefusal, none, shapeOf, unlessRefused}
 use Rattle.wellformed.specs.Limits.{limitsOf}
+use Rattle.fields.specs.declared.Part.the-variants.{Counts, Terms, Widths}
+use Rattle.fields.specs.declared.runs.Run.{Run}
+use Rattle.fields.specs.declared.runs.Run.the-variants.{Done, Refused}
+use Rattle.fields.specs.Runs.{Filled, blocksFrom, endingOf, fillOf}
 use Rattle.casefile.specs.declared.Answer.{Answer}
-use Rattle.casefile.specs.declared.fields.Part.the-variants.{Counts, Terms, Widths}
-use Rattle.casefile.specs.declared.runs.Run.{Run}
-use Rattle.casefile.specs.declared.runs.Run.the-variants.{Done, Refused}
-use Rattle.casefile.specs.Fields.{counts, terms}
-use Rattle.casefile.specs.Runs.{Filled, blocksFrom, endingOf, fillOf}
 
 -- What a file is answered with: a refusal or the record of a case, and the numbers that go into the front of the lent column widths, row widths and slots.
 pub record Read : Type 0 where
@@ -21,10 +21,6 @@ pub record Read : Type 0 where
   pub columns : List ℤ
   pub rows : List ℤ
   pub slots : List ℤ
-
--- the record beside a refusal
-abbrev pub noGrid : Grid
-noGrid = record { columns = 0; rows = 0; layers = 0; delta = pos 0; flag = 0; step = pos 0; tolerance = pos 0 }
 
 -- the client's demand 1: "A refusal gives its number and block, and no lent slice changes by it."
 abbrev pub refusing : Refusal → Read
@@ -43,13 +39,13 @@ after (Done at) more = more at
 abbrev pub giving : Case → Read
 giving c = record { answer = record { refusal = none; grid = c .grid }; columns = c .columns; rows = c .rows; slots = c .slots }
 
--- "Order: columns, rows, layers, δ, flag, step, tolerance": the record of a case by its three counts
+-- "Order: columns, rows, layers, δ, flag, step, tolerance": the record of a case by its counts
 unfoldable pub countedOf : List ℤ → Grid
-countedOf v = record { columns = natAbs (getD v 0 (pos 0)); rows = natAbs (getD v 1 (pos 0)); layers = natAbs (getD v 2 (pos 0)); delta = pos 0; flag = 0; step = pos 0; tolerance = pos 0 }
+countedOf v = onlyCounts (natAbs (getD v 0 (pos 0))) (natAbs (getD v 1 (pos 0))) (natAbs (getD v 2 (pos 0)))
 
--- "δ, flag, step, tolerance": the record with its four terms
+-- "δ, flag, step, tolerance": the record with its terms
 unfoldable pub termedOf : Grid → List ℤ → Grid
-termedOf g v = record { columns = g .columns; rows = g .rows; layers = g .layers; delta = getD v 0 (pos 0); flag = natAbs (getD v 1 (pos 0)); step = getD v 2 (pos 0); tolerance = getD v 3 (pos 0) }
+termedOf g v = recordOf (g .columns) (g .rows) (g .layers) (getD v 0 (pos 0)) (natAbs (getD v 1 (pos 0))) (getD v 2 (pos 0)) (getD v 3 (pos 0))
 
 -- "column widths, row widths, then per block": each part from where the one before it ended
 abbrev pub columnsFrom : Grid → List ℕ → ℕ → Filled

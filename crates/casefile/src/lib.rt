@@ -1,16 +1,14 @@
 // A case file, read into lent slices (document 01, "The case file"): "A file is judged number by number".
-pub mod fields;
-pub mod runs;
-
 ghost use mathlib.Core.Path.{_≡_};
 ghost use Prim.Native.Nat.{_≤_};
 ghost use lib.ListN.{length};
 ghost use Rattle.whole.specs.Lent.{over};
 ghost use Rattle.grid.specs.Judging.{Termed};
 ghost use Rattle.grid.specs.Place.{Counted};
+ghost use Rattle.grid.specs.Record.{counts, terms};
 ghost use Rattle.slices.specs.Slices.{caseOf, Judged, Roomy};
-ghost use Rattle.casefile.specs.declared.fields.Part.the-variants.{Counts, Terms};
-ghost use Rattle.casefile.specs.Fields.{Within};
+ghost use Rattle.fields.specs.declared.Part.the-variants.{Counts, Terms};
+ghost use Rattle.fields.specs.Fields.{Within};
 ghost use Rattle.casefile.specs.Reading.{
   refusing,
   countedOf,
@@ -20,17 +18,18 @@ ghost use Rattle.casefile.specs.Reading.{
   afterCounts,
   readingOf,
 };
-use fields::COUNTS;
 use fields::MOST_SLOTS;
 use fields::Part;
-use fields::TERMS;
+use fields::runs::Run;
+use fields::runs::ending;
+use fields::runs::fill;
+use fields::runs::fill_blocks;
+use grid::COUNTS;
 use grid::Grid;
+use grid::NO_GRID;
+use grid::TERMS;
 use grid::place::blocks;
 use grid::units::MOST_ACROSS;
-use runs::Run;
-use runs::ending;
-use runs::fill;
-use runs::fill_blocks;
 use slices::Refusal;
 use slices::shape;
 use slots::units::SLOTS_EACH;
@@ -43,17 +42,6 @@ pub struct Answer {
     pub grid: Grid,
 }
 
-// What stands beside a refusal.
-const NO_GRID: Grid = Grid {
-    columns: 0,
-    rows: 0,
-    layers: 0,
-    delta: 0,
-    flag: 0,
-    step: 0,
-    tolerance: 0,
-};
-
 // A refusal beside a record that is all 0.
 fn refused(refusal: Refusal) -> Answer
     ensures { λ r. ⌜ r ≡ refusing refusal .answer ⌝ }
@@ -64,37 +52,33 @@ fn refused(refusal: Refusal) -> Answer
     }
 }
 
-// The record of a case by its three counts. Inner: they are within their ends.
-fn counted(counts: &[i64]) -> Grid
-    requires { ⌜ 3 ≤ length (now counts) ⌝ }
-    requires { ⌜ Within Counts 3 (now counts) ⌝ }
-    ensures { λ r. ⌜ r ≡ countedOf (now (counts .entry)) ⌝ }
+// The record of a case by its counts. Inner: they are within their ends.
+fn counted(values: &[i64]) -> Grid
+    requires { ⌜ counts ≤ length (now values) ⌝ }
+    requires { ⌜ Within Counts counts (now values) ⌝ }
+    ensures { λ r. ⌜ r ≡ countedOf (now (values .entry)) ⌝ }
 {
-    Grid {
-        columns: counts[0] as usize,
-        rows: counts[1] as usize,
-        layers: counts[2] as usize,
-        delta: 0,
-        flag: 0,
-        step: 0,
-        tolerance: 0,
-    }
+    let mut g = NO_GRID;
+    g.columns = values[0] as usize;
+    g.rows = values[1] as usize;
+    g.layers = values[2] as usize;
+    g
 }
 
-// The record of a case with its four terms. Inner: they are within their ends.
-fn termed(g: Grid, terms: &[i64]) -> Grid
-    requires { ⌜ 4 ≤ length (now terms) ⌝ }
-    requires { ⌜ Within Terms 4 (now terms) ⌝ }
-    ensures { λ r. ⌜ r ≡ termedOf g (now (terms .entry)) ⌝ }
+// The record of a case with its terms. Inner: they are within their ends.
+fn termed(g: Grid, values: &[i64]) -> Grid
+    requires { ⌜ terms ≤ length (now values) ⌝ }
+    requires { ⌜ Within Terms terms (now values) ⌝ }
+    ensures { λ r. ⌜ r ≡ termedOf g (now (values .entry)) ⌝ }
 {
     Grid {
         columns: g.columns,
         rows: g.rows,
         layers: g.layers,
-        delta: terms[0],
-        flag: terms[1] as u64,
-        step: terms[2],
-        tolerance: terms[3],
+        delta: values[0],
+        flag: values[1] as u64,
+        step: values[2],
+        tolerance: values[3],
     }
 }
 

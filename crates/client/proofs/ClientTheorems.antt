@@ -14,13 +14,16 @@ use Rattle.whole.specs.Lent.{over}
 use Rattle.grid.proofs.JudgingLaws.{counts-counted, terms-termed}
 use Rattle.grid.specs.Judging.{Termed, countsHold, termsHold}
 use Rattle.grid.specs.Place.{Counted}
+use Rattle.grid.specs.Record.{recordNumbers}
 use Rattle.grid.specs.declared.Grid.{Grid}
 use Rattle.slices.proofs.SlicesLaws.{first-append}
 use Rattle.slices.specs.Slices.{Case, blaming, caseOf, contentsOf, faultOf, firstRefusal, none, orElse, refusal, roomHolds, shapeOf, unless, widthsHold}
-use Rattle.wellformed.specs.Limits.{checkedOf, limitsOf}
+use Rattle.wellformed.specs.Limits.{checkedLent, checkedOf, limitsOf}
+use Rattle.wellformed.proofs.LimitsLaws.{lent-reaches}
 use Rattle.casefile.proofs.CasefileTheorems.{read-passes}
 use Rattle.casefile.specs.Reading.{Read, readingOf}
-use Rattle.client.specs.Crossing.{checkHanded, countIn, flagIn, gridOf, handed, numbersOfGrid, readHanded, recordLeft, short}
+use Rattle.crossing.specs.Crossing.{checkHanded, countIn, flagIn, gridOf, handed, numbersOfGrid, readHanded, recordLeft, short}
+use Rattle.crossing.proofs.CrossingLaws.{check-long}
 use Rattle.casefile.specs.Reading.{refusing as unread}
 
 count-back : (n : ℕ) → countIn (pos n) ≡ n
@@ -43,24 +46,24 @@ record-comes-back g rest =
       tolerance = g .tolerance;
     }
 
-seven-long : (g : Grid) (rest : List ℤ) → leb 7 (length (numbersOfGrid g ++ rest)) ≡ true
-seven-long g rest = le-leb 7 (length (numbersOfGrid g ++ rest)) (omega (arith, length-append (numbersOfGrid g) rest))
+long-enough : (g : Grid) (rest : List ℤ) → leb recordNumbers (length (numbersOfGrid g ++ rest)) ≡ true
+long-enough g rest = le-leb recordNumbers (length (numbersOfGrid g ++ rest)) (omega (arith, length-append (numbersOfGrid g) rest))
 
 -- A file that `caydubeesh_read` does not refuse passes `caydubeesh_check`, by the record and the slices as they then are.
 pub read-then-checked : (file : List ℕ) (row columns rows slots : List ℤ) → let r = readHanded file (length row) columns rows slots in r .answer .refusal .number ≡ 0 →
-    checkHanded (recordLeft file columns rows slots row) (over (r .columns) columns) (over (r .rows) rows) (over (r .slots) slots) ≡ none
+    checkHanded (recordLeft file columns rows slots row) (over (r .columns) columns) (over (r .rows) rows) (over (r .slots) slots) true ≡ none
 unfolding recordLeft readHanded checkHanded
-read-then-checked file row columns rows slots = go (leb 7 (length row))
+read-then-checked file row columns rows slots = go (leb recordNumbers (length row))
   where
     r : Read
     r = readingOf file columns rows slots
 
     go : (b : Bool) → let r = cond b r (unread short) in r .answer .refusal .number ≡ 0 →
         (let sent = over (handed (r .answer .refusal) (numbersOfGrid (r .answer .grid))) row in
-        cond (leb 7 (length sent)) (checkedOf (caseOf (gridOf sent) (over (r .columns) columns) (over (r .rows) rows) (over (r .slots) slots))) short) ≡ none
+        cond (leb recordNumbers (length sent)) (checkedLent (caseOf (gridOf sent) (over (r .columns) columns) (over (r .rows) rows) (over (r .slots) slots)) true) short) ≡ none
     go true e =
         let rest = drop (length (numbersOfGrid (r .answer .grid))) row in
-        rw (eq-eqb (r .answer .refusal .number) 0 e, seven-long (r .answer .grid) rest, record-comes-back (r .answer .grid) rest) (read-passes file columns rows slots e)
+        rw (eq-eqb (r .answer .refusal .number) 0 e, long-enough (r .answer .grid) rest, record-comes-back (r .answer .grid) rest) (lent-reaches (caseOf (r .answer .grid) (over (r .columns) columns) (over (r .rows) rows) (over (r .slots) slots)) ∙ read-passes file columns rows slots e)
     go false e = absurd (omega (arith, e))
 
 -- ---- a count or a flag below zero
@@ -91,9 +94,9 @@ not-flagged : (z : ℤ) → ltZ z (pos 0) ≡ true → flagIn z ≤ 1 → ⊥
 not-flagged z e h = let n : 2 ≤ 1 = rw e at h in omega (arith, n)
 
 -- A count below zero is refused with 3.
-pub count-below-zero : (row columns rows slots : List ℤ) → 7 ≤ length row → (k : ℕ) → k < 3 → ltZ (getD row k (pos 0)) (pos 0) ≡ true → checkHanded row columns rows slots ≡ refusal 3 0
-unfolding checkHanded gridOf
-count-below-zero row columns rows slots h k l e = rw (le-leb 7 (length row) h) (uncounted (caseOf (gridOf row) columns rows slots) (go k l e))
+pub count-below-zero : (row columns rows slots : List ℤ) → recordNumbers ≤ length row → (k : ℕ) → k < 3 → ltZ (getD row k (pos 0)) (pos 0) ≡ true → checkHanded row columns rows slots true ≡ refusal 3 0
+unfolding gridOf
+count-below-zero row columns rows slots h k l e = check-long row columns rows slots true h ∙ lent-reaches (caseOf (gridOf row) columns rows slots) ∙ uncounted (caseOf (gridOf row) columns rows slots) (go k l e)
   where
     go : (k : ℕ) → k < 3 → ltZ (getD row k (pos 0)) (pos 0) ≡ true → Counted (gridOf row) → ⊥
     go zero l e counted = none-counted (getD row 0 (pos 0)) e (counted .columns-some)
@@ -102,7 +105,7 @@ count-below-zero row columns rows slots h k l e = rw (le-leb 7 (length row) h) (
     go (suc (suc (suc k))) l e counted = omega (arith, l)
 
 -- A flag below zero is refused with 4, where 3 and 7 do not come first.
-pub flag-below-zero : (row columns rows slots : List ℤ) → 7 ≤ length row → firstRefusal (shapeOf (caseOf (gridOf row) columns rows slots)) ≡ none → ltZ (getD row 4 (pos 0)) (pos 0) ≡ true →
-    checkHanded row columns rows slots ≡ refusal 4 0
-unfolding checkHanded gridOf
-flag-below-zero row columns rows slots h shaped e = rw (le-leb 7 (length row) h) (untermed (caseOf (gridOf row) columns rows slots) shaped (λ termed. not-flagged (getD row 4 (pos 0)) e (termed .flag)))
+pub flag-below-zero : (row columns rows slots : List ℤ) → recordNumbers ≤ length row → firstRefusal (shapeOf (caseOf (gridOf row) columns rows slots)) ≡ none → ltZ (getD row 4 (pos 0)) (pos 0) ≡ true →
+    checkHanded row columns rows slots true ≡ refusal 4 0
+unfolding gridOf
+flag-below-zero row columns rows slots h shaped e = check-long row columns rows slots true h ∙ lent-reaches (caseOf (gridOf row) columns rows slots) ∙ untermed (caseOf (gridOf row) columns rows slots) shaped (λ termed. not-flagged (getD row 4 (pos 0)) e (termed .flag))

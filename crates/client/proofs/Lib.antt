@@ -1,4 +1,3 @@
 -- Laws of what crosses to other languages. They hold nothing to believe.
-pub mod CrossingLaws
 pub mod ClientTheorems
 pub mod OutcomeTheorems

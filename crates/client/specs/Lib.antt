@@ -1,1 +1,2 @@
-pub mod Crossing
+-- The definitions of `client`.
+pub mod Kept

@@ -2,8 +2,7 @@
 // refusal, 0 for none, and writes the block that it names, counted from 1 and 0 for none, to `block`. What was asked for goes over the front of a lent
 // slice, and a refusal changes no slice. A record that is too short is refused with 7 before all else, and a slice that is too short for the answer with 7 in
 // 7's place. A record is columns, rows, layers, δ, flag, step in days, tolerance in litres a day; `columns` and `rows` are the widths in metres.
-mod crossing;
-
+ghost use mathlib.Core.Bool.{true};
 ghost use mathlib.Core.Path.{_≡_};
 ghost use lib.IntN.{pos};
 ghost use lib.ListN.{length};
@@ -12,7 +11,7 @@ ghost use Rattle.slots.specs.Units.{mostLevel};
 ghost use Rattle.metres.specs.declared.boundary.Boundary.the-variants.{Sea};
 ghost use Rattle.metres.specs.Boundaries.{boundarySlotsOf};
 ghost use Rattle.metres.specs.Metres.{shownOf, takenOf};
-ghost use Rattle.client.specs.Crossing.{
+ghost use Rattle.crossing.specs.Crossing.{
   checkHanded,
   verdictHanded,
   tableHanded,
@@ -22,41 +21,22 @@ ghost use Rattle.client.specs.Crossing.{
   tableLeft,
   reportLeft,
   recordLeft,
-  kept,
 };
-use budget::zone_table;
+ghost use Rattle.client.specs.Kept.{kept};
 use casefile::read_case;
-use crossing::RECORD;
-use crossing::REPORT;
-use crossing::SHORT;
-use crossing::TABLE;
-use crossing::VERDICT;
-use crossing::grid_of;
 use crossing::hand;
 use crossing::hand_grid;
 use crossing::hand_report;
-use crossing::lend;
+use crossing::handed::check_handed;
+use crossing::handed::report_handed;
+use crossing::handed::table_handed;
+use crossing::handed::verdict_handed;
 use crossing::numbers_of_verdict;
+use grid::RECORD_NUMBERS;
 use metres::boundary::Boundary;
 use metres::boundary::take_boundary;
 use metres::show;
 use metres::take_in;
-use report::NO_REPORT;
-use report::block_report;
-use slices::Refusal;
-use verdict::NO_VERDICT;
-use verdict::verdict_of_slices;
-use wellformed::check_slices;
-
-// What a case in slices is refused with, 7 for the record first.
-fn check_handed(record: &[i64], columns: &[i64], rows: &[i64], slots: &[i64]) -> Refusal
-    ensures { λ r. ⌜ r ≡ checkHanded (now («record» .entry)) (now (columns .entry)) (now (rows .entry)) (now (slots .entry)) ⌝ }
-{
-    if record.len() < RECORD {
-        return SHORT;
-    }
-    check_slices(grid_of(record), columns, rows, slots)
-}
 
 // What a case in slices is refused with: 3, 7, 4, 5, 6, 9 or 10.
 #[no_mangle]
@@ -67,32 +47,12 @@ pub extern "C" fn caydubeesh_check(
     slots: &[i64],
     block: &mut usize,
 ) -> u64
-    ensures number { λ r. ⌜ r ≡ checkHanded (now («record» .entry)) (now (columns .entry)) (now (rows .entry)) (now (slots .entry)) .number ⌝ }
-    ensures block { λ _. ⌜ now (block .exit) ≡ checkHanded (now («record» .entry)) (now (columns .entry)) (now (rows .entry)) (now (slots .entry)) .block ⌝ }
+    ensures number { λ r. ⌜ r ≡ checkHanded (now («record» .entry)) (now (columns .entry)) (now (rows .entry)) (now (slots .entry)) true .number ⌝ }
+    ensures block { λ _. ⌜ now (block .exit) ≡ checkHanded (now («record» .entry)) (now (columns .entry)) (now (rows .entry)) (now (slots .entry)) true .block ⌝ }
 {
-    let refusal = check_handed(record, columns, rows, slots);
+    let refusal = check_handed(record, columns, rows, slots, true);
     *block = refusal.block;
     refusal.number
-}
-
-// The verdict, or what stands in its place.
-fn verdict_handed(
-    record: &[i64],
-    columns: &[i64],
-    rows: &[i64],
-    slots: &[i64],
-    room: usize,
-) -> verdict::Answer
-    ensures { λ r. ⌜ r ≡ verdictHanded (now («record» .entry)) (now (columns .entry)) (now (rows .entry)) (now (slots .entry)) room ⌝ }
-{
-    let refusal = lend(record, columns, rows, slots, VERDICT, room);
-    if refusal.number != 0 {
-        return verdict::Answer {
-            refusal,
-            verdict: NO_VERDICT,
-        };
-    }
-    verdict_of_slices(grid_of(record), columns, rows, slots)
 }
 
 // The verdict on the heads proposed in a case in slices, over the front of `verdict`: code, block, count of places, largest balance in litres a day. It is
@@ -115,27 +75,6 @@ pub extern "C" fn caydubeesh_verdict(
     hand(answer.refusal, &numbers, verdict, block)
 }
 
-// The table of a zone, or what stands in its place.
-fn table_handed(
-    record: &[i64],
-    columns: &[i64],
-    rows: &[i64],
-    slots: &[i64],
-    marks: &[i64],
-    room: usize,
-) -> budget::Answer
-    ensures { λ r. ⌜ r ≡ tableHanded (now («record» .entry)) (now (columns .entry)) (now (rows .entry)) (now (slots .entry)) (now (marks .entry)) room ⌝ }
-{
-    let refusal = lend(record, columns, rows, slots, TABLE, room);
-    if refusal.number != 0 {
-        return budget::Answer {
-            refusal,
-            lines: [0i64; TABLE],
-        };
-    }
-    zone_table(grid_of(record), columns, rows, slots, marks)
-}
-
 // The table of a zone of a case in slices, over the front of `lines`: nine lines of fresh water and nine of salt water, litres a day. `marks` has a 1 for
 // each block of the zone and a 0 for each other. It is refused as `caydubeesh_check` refuses, with 7 for short marks too, and then with 11 or 13.
 #[no_mangle]
@@ -155,27 +94,6 @@ pub extern "C" fn caydubeesh_zone_table(
     let answer = table_handed(record, columns, rows, slots, marks, lines.len());
     let numbers = answer.lines;
     hand(answer.refusal, &numbers, lines, block)
-}
-
-// The report of a block, or what stands in its place.
-fn report_handed(
-    record: &[i64],
-    columns: &[i64],
-    rows: &[i64],
-    slots: &[i64],
-    number: usize,
-    room: usize,
-) -> report::Answer
-    ensures { λ r. ⌜ r ≡ reportHanded (now («record» .entry)) (now (columns .entry)) (now (rows .entry)) (now (slots .entry)) number room ⌝ }
-{
-    let refusal = lend(record, columns, rows, slots, REPORT, room);
-    if refusal.number != 0 {
-        return report::Answer {
-            refusal,
-            report: NO_REPORT,
-        };
-    }
-    block_report(grid_of(record), columns, rows, slots, number)
 }
 
 // The report of a block of a case in slices, by its number, counted from 1, over the front of `metres`: fresh head, salt head, interface, fresh thickness,
@@ -215,7 +133,7 @@ pub extern "C" fn caydubeesh_read(
     ensures rows { λ _. ⌜ now (rows .exit) ≡ over (readHanded (now (file .entry)) (length (now («record» .entry))) (now (columns .entry)) (now (rows .entry)) (now (slots .entry)) .rows) (now (rows .entry)) ⌝ }
     ensures slots { λ _. ⌜ now (slots .exit) ≡ over (readHanded (now (file .entry)) (length (now («record» .entry))) (now (columns .entry)) (now (rows .entry)) (now (slots .entry)) .slots) (now (slots .entry)) ⌝ }
 {
-    if record.len() < RECORD {
+    if record.len() < RECORD_NUMBERS {
         *block = 0;
         return 7;
     }

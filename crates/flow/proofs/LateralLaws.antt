@@ -60,6 +60,14 @@ module _ (f : Face) (K1 K2 : ℤ) (h : FaceIn f) (k : In (pos 1) (pos mostFluidK
             (dividend (f .low) (f .high) (pos mostFluidK) (≤ℤ-trans zero-one (h .low .low)) (≤ℤ-trans zero-one (h .high .low)) (≤ℤ-trans zero-one (k .low)) (≤ℤ-trans zero-one (l .low)) (k .high) (l .high));
       }
 
+  -- no more than what both are within
+  pub face-k-most : (M : ℤ) → K1 ≤ℤ M → K2 ≤ℤ M → faceKOf f K1 K2 ≤ℤ M
+  unfolding faceKOf
+  face-k-most M p q =
+      let zero-one : pos 0 ≤ℤ pos 1 = leZ-yes tt in
+      floor-≤ ((f .low +ℤ f .high) *ℤ K1 *ℤ K2) (f .low *ℤ K2 +ℤ f .high *ℤ K1) M face-divisor
+      (dividend (f .low) (f .high) M (≤ℤ-trans zero-one (h .low .low)) (≤ℤ-trans zero-one (h .high .low)) (≤ℤ-trans zero-one (k .low)) (≤ℤ-trans zero-one (l .low)) p q)
+
 -- ---- conductance
 
 module _ (f : Face) (K : ℤ) (h : FaceIn f) (k : In (pos 0) (pos mostFluidK) K) where

@@ -1,7 +1,7 @@
 -- From conductance and head difference to litres a day (document 01, "A lateral face", "Leakage, river and sea"). A conductance is in litres a day
 -- for each metre of head difference, and a difference is in ticks.
 use mathlib.Core.Bool.{cond}
-use Prim.Native.Nat.{ℕ}
+use Prim.Native.Nat.{_+_, ℕ}
 use lib.IntN.{_*ℤ_, pos, ℤ}
 use lib.Signed.{ltZ}
 use Rattle.whole.specs.Sum.{only}
@@ -11,6 +11,10 @@ use Rattle.block.specs.Units.{ticks}
 -- 10: "a conductance of either fluid exceeds 268,435,456"
 abbrev pub mostConductance : ℕ
 mostConductance = 268435456
+
+-- the least conductance that exceeds it
+abbrev pub overConductance : ℕ
+overConductance = mostConductance + 1
 
 -- the greatest head difference, in ticks: 5 · 4,194,304, of a fresh head and a fresh equivalent at δ 1
 abbrev pub mostDifference : ℕ

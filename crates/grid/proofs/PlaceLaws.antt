@@ -11,7 +11,7 @@ use native.Mathlib.Omega.{arith}
 use lib.Arith.{digits-div, digits-lt, digits-mod}
 use lib.Dec.{T, eqb, leb, leb→le, le→leb, ltb, ltb→lt, lt→ltb}
 use lib.IntN.{ℤ}
-use borrow.Author.Tests.{eq-eqb, ltb-false, ne-eqb}
+use borrow.Author.Tests.{eq-eqb, le-leb, lt-leb, ltb-false, ne-eqb}
 use Rattle.whole.specs.Sum.{back, only}
 use Rattle.whole.proofs.SearchLaws.{both, holds, joint, same-test}
 use Rattle.whole.proofs.SumLaws.{only-and}
@@ -136,6 +136,21 @@ last l n h = go (ltb (l + 1) n) refl
 pub top-last : (g : Grid) → Counted g → (i : ℕ) → i < blocksOf g → (p : Place) → p ≡ placeOf g i → not (hasNext g p above) ≡ topOf g i
 unfolding hasNext topOf
 top-last g counted i l p at = rw at (last (placeOf g i .layer) (g .layers) (place-inside g counted i l .layer))
+
+-- and the one whose next block above would stand outside
+far-top : (g : Grid) (p : Place) → Inside g p → hasNext g p above ≡ false → blocksOf g ≤ blockAt g p + strideOf g above
+unfolding hasNext blockAt
+far-top g p h none =
+    let last-layer : g .layers ≡ p .layer + 1 = omega (arith, h .layer, ltb-false (p .layer + 1) (g .layers) none) in
+    rw last-layer (omega arith)
+
+pub top-outside : (g : Grid) → Counted g → (i : ℕ) → i < blocksOf g → leb (blocksOf g) (i + strideOf g above) ≡ topOf g i
+unfolding nextOf
+top-outside g counted i l = go (hasNext g (placeOf g i) above) refl ∙ top-last g counted i l (placeOf g i) refl
+  where
+    go : (b : Bool) → hasNext g (placeOf g i) above ≡ b → leb (blocksOf g) (i + strideOf g above) ≡ not (hasNext g (placeOf g i) above)
+    go true e = rw e (lt-leb (blocksOf g) (i + strideOf g above) (next-inside g counted above i l (holds e)))
+    go false e = rw e (le-leb (blocksOf g) (i + strideOf g above) (subst (λ (k : ℕ). blocksOf g ≤ k + strideOf g above) (block-place g i) (far-top g (placeOf g i) (place-inside g counted i l) e)))
 
 -- what a block's place tells of its links
 module _ (g : Grid) (d i : ℕ) (p : Place) (q : Bool) (at : p ≡ placeOf g i) where

@@ -1,4 +1,5 @@
 -- The definitions of `grid`, for the crates above.
 pub mod Units
+pub mod Record
 pub mod Place
 pub mod Judging

@@ -19,3 +19,22 @@ pub struct Grid {
     // Litres a day.
     pub tolerance: i64,
 }
+
+// How many of the record's numbers are counts, and how many terms. specs/Record.antt has the same names and numbers.
+pub const COUNTS: usize = 3;
+
+pub const TERMS: usize = 4;
+
+// How many numbers the record has: "columns, rows, layers, δ, flag, step, tolerance".
+pub const RECORD_NUMBERS: usize = COUNTS + TERMS;
+
+// The record beside a refusal.
+pub const NO_GRID: Grid = Grid {
+    columns: 0,
+    rows: 0,
+    layers: 0,
+    delta: 0,
+    flag: 0,
+    step: 0,
+    tolerance: 0,
+};

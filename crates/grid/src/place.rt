@@ -18,6 +18,7 @@ ghost use Rattle.grid.specs.Place.{
   Counted,
 };
 use super::Grid;
+use super::units::ABOVE;
 
 // Column, row and layer, each counted from 0; layer 0 is the deepest.
 pub struct Place {
@@ -59,8 +60,7 @@ pub fn is_top(g: Grid, block: usize) -> bool
     requires { ⌜ block < blocksOf g ⌝ }
     ensures { λ r. ⌜ r ≡ topOf g block ⌝ }
 {
-    let place = place_of(g, block);
-    place.layer + 1 == g.layers
+    blocks(g) <= block + stride(g, ABOVE)
 }
 
 // The column, the row or the layer, by the axis.

@@ -1,7 +1,6 @@
 -- Laws of ticks and doubles, and the theorems about metres. They hold nothing to believe.
 pub mod ShownLaws
 pub mod ValueLaws
-pub mod ClosestLaws
 pub mod NearestLaws
 pub mod TakenLaws
 pub mod AnswersLaws

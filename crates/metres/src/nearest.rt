@@ -1,10 +1,10 @@
 // "A double becomes the nearest tick, halves to the even one": from the bits of the double, a sign, an exponent's field of 11 bits and 52 digits.
 ghost use mathlib.Core.Path.{_≡_};
-ghost use Prim.Native.Nat.{_+_, _≤_, _<_, _^_, _%_};
+ghost use Prim.Native.Nat.{_<_};
 ghost use lib.Ieee.{binary64, ofBits};
-ghost use lib.Ieee.Nearest.{closest};
 ghost use Rattle.metres.specs.Metres.{tickOf, ticksIn};
 ghost use Rattle.metres.specs.Patterns.{fieldOf, digitsOf, far};
+use whole::nearest::nearest;
 
 // From this exponent's field on a double has 2,048 m, 8,388,608 ticks, or more without sign, or it is infinite or no number.
 pub const FAR: u64 = 1034;
@@ -24,32 +24,6 @@ fn digits_of(bits: u64) -> u64
     ensures { λ r. ⌜ r ≡ digitsOf bits ⌝ }
 {
     (bits & 0xf_ffff_ffff_ffff) | 0x10_0000_0000_0000
-}
-
-// The even one of a number and the next. Inner: the number is below 2⁵³.
-fn to_even(whole: u64) -> u64
-    requires { ⌜ whole < 2 ^ 53 ⌝ }
-    ensures { λ r. ⌜ r ≡ whole + whole % 2 ⌝ }
-{
-    if whole % 2 == 0 { whole } else { whole + 1 }
-}
-
-// digits / unit to the nearest whole number, "halves to the even one". Inner: digits are below 2⁵³, and unit is from 1 to 2⁵³.
-fn nearest(digits: u64, unit: u64) -> u64
-    requires { ⌜ digits < 2 ^ 53 ⌝ }
-    requires { ⌜ 0 < unit ⌝ }
-    requires { ⌜ unit ≤ 2 ^ 53 ⌝ }
-    ensures { λ r. ⌜ r ≡ closest digits unit ⌝ }
-{
-    let whole = digits / unit;
-    let twice = digits % unit * 2;
-    if twice < unit {
-        whole
-    } else if twice == unit {
-        to_even(whole)
-    } else {
-        whole + 1
-    }
 }
 
 // How many ticks a double has, to the nearest, without sign. Inner: its exponent's field is below FAR.

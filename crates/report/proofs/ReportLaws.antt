@@ -1,22 +1,22 @@
 -- A block's report, by the steps of the code. Assumes nothing.
 use mathlib.Core.Bool.{Bool, _&&_, cond, false, true}
 use mathlib.Core.List.{List, [], _∷_}
-use mathlib.Core.Path.{_∙_, _≡_, ap, refl, subst, sym}
+use mathlib.Core.Path.{_∙_, _≡_, ap, refl, sym}
 use Prim.Native.Nat.{_-_, _<_, _≤_, ℕ}
 use native.Mathlib.Omega.{arith}
-use lib.Dec.{eqb, leb, leb→le}
+use lib.Dec.{leb, leb→le}
 use lib.IntN.{ℤ}
-use borrow.Author.Tests.{eq-eqb, le-leb, lt-leb, ne-eqb}
+use borrow.Author.Tests.{le-leb, lt-leb, ne-eqb}
 use Rattle.whole.proofs.SearchLaws.{both, true-is, holds}
 use Rattle.grid.specs.declared.Grid.{Grid}
 use Rattle.grid.specs.Place.{blocksOf, topOf}
 use Rattle.slots.specs.Slots.{blockOf, isActive}
 use Rattle.slices.specs.declared.Refusal.{Refusal}
-use Rattle.slices.specs.Slices.{Case, firstRefusal, none, orElse, refusal}
-use Rattle.slices.proofs.SlicesLaws.{first-goes-on, first-stays, none-refused}
+use Rattle.slices.specs.Slices.{Case, firstRefusal, none, orElse, refusal, unlessRefused}
+use Rattle.slices.proofs.SlicesLaws.{first-goes-on, first-stays}
 use Rattle.wellformed.specs.Limits.{checkedOf, checksOf}
 use Rattle.report.specs.declared.Report.{Report}
-use Rattle.report.specs.Reports.{Named, namesActive, naming, noReport, reportAnswer, reportOf, reportRefusal, telling}
+use Rattle.report.specs.Reports.{Named, namesActive, naming, noReport, reportAnswer, reportOf, reportOfCase, reportRefusal, telling}
 
 -- ---- which numbers name an active block
 
@@ -70,24 +70,24 @@ module _ (c : Case) (number : ℕ) where
   abbrev own : Report
   own = reportOf (c .grid) (blockOf (c .slots) (number - 1)) (topOf (c .grid) (number - 1))
 
-  -- by what it is refused with
-  refused-is : (r : Refusal) → r ≡ reportRefusal c number → (r .number ≡ 0 → ⊥) → telling r noReport ≡ reportAnswer c number
-  unfolding reportAnswer
-  refused-is r e h = subst (λ q. telling r noReport ≡ telling q (cond (eqb (q .number) 0) own noReport)) e (ap (telling r) (sym (ap (λ b. cond b own noReport) (ne-eqb (r .number) 0 h))))
+  -- by the number alone
+  pub fourteen : namesActive (c .grid) (c .slots) number ≡ false → telling (refusal 14 number) noReport ≡ reportOfCase c number
+  unfolding reportOfCase
+  fourteen e = rw e
 
+  pub reported : namesActive (c .grid) (c .slots) number ≡ true → (x : Report) → x ≡ own → telling none x ≡ reportOfCase c number
+  unfolding reportOfCase
+  reported e x is = rw e (ap (telling none) is)
+
+  -- by what it is refused with before
   pub check-refuses : (r : Refusal) → r ≡ checkedOf c → (r .number ≡ 0 → ⊥) → telling r noReport ≡ reportAnswer c number
-  check-refuses r e h = refused-is r (first-stays (checksOf c) (naming c number ∷ []) r e h) h
+  unfolding reportAnswer
+  check-refuses r e h = rw (← first-stays (checksOf c) (naming c number ∷ []) r e h, ne-eqb (r .number) 0 h)
 
   module _ (checked : checkedOf c .number ≡ 0) where
     pub refusal-is : naming c number ≡ reportRefusal c number
     refusal-is = first-goes-on (checksOf c) (naming c number ∷ []) (checkedOf c) refl (naming c number) checked (naming-alone number (namesActive (c .grid) (c .slots) number))
 
-    pub fourteen : namesActive (c .grid) (c .slots) number ≡ false → telling (refusal 14 number) noReport ≡ reportAnswer c number
-    fourteen e = refused-is (refusal 14 number) (sym (ap (λ b. cond b none (refusal 14 number)) e) ∙ refusal-is) (omega arith)
-
-    pub reported : namesActive (c .grid) (c .slots) number ≡ true → (r : Refusal) (x : Report) → r ≡ checkedOf c → x ≡ own → telling r x ≡ reportAnswer c number
-    unfolding reportAnswer
-    reported e r x told is =
-        let nothing = told ∙ none-refused (checksOf c) checked in
-        subst (λ q. telling r x ≡ telling q (cond (eqb (q .number) 0) own noReport)) (nothing ∙ sym (ap (λ b. cond b none (refusal 14 number)) e) ∙ refusal-is)
-        (ap (telling r) (is ∙ sym (ap (λ b. cond b own noReport) (eq-eqb (r .number) 0 (ap (λ q. q .number) nothing)))))
+    pub case-reported : reportOfCase c number ≡ reportAnswer c number
+    unfolding reportOfCase reportAnswer
+    case-reported = ap (λ r. telling r (unlessRefused r own noReport)) refusal-is

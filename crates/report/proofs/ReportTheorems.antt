@@ -28,7 +28,7 @@ use Rattle.metres.proofs.ShownLaws.{metres-exact}
 use Rattle.wellformed.specs.Limits.{checkedOf, checksOf}
 use Rattle.wellformed.proofs.LimitsLaws.{checked-stands}
 use Rattle.report.specs.Reports.{Named, inMetres, namesActive, naming, noReport, reportAnswer, reportOf, reportRefusal}
-use Rattle.report.proofs.ReportLaws.{check-refuses, fourteen, named, named-inside, names, naming-none, refusal-is}
+use Rattle.report.proofs.ReportLaws.{case-reported, check-refuses, fourteen, named, named-inside, names, naming-none, refusal-is}
 
 -- ---- who is answered
 
@@ -48,7 +48,7 @@ slices-first c number h = ap (λ a. a .refusal) (sym (check-refuses c number (ch
 
 -- and otherwise a number that names no active block is refused with 14, which names it.
 pub fourteen-asked : (c : Case) (number : ℕ) → checkedOf c .number ≡ 0 → (Named c number → ⊥) → reportAnswer c number .refusal ≡ refusal 14 number
-fourteen-asked c number e n = ap (λ a. a .refusal) (sym (fourteen c number e (go (namesActive (c .grid) (c .slots) number) (named c number))))
+fourteen-asked c number e n = ap (λ a. a .refusal) (sym (fourteen c number (go (namesActive (c .grid) (c .slots) number) (named c number)) ∙ case-reported c number e))
   where
     go : (b : Bool) → (b ≡ true → Named c number) → b ≡ false
     go true h = absurd (n (h refl))

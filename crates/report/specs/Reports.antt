@@ -64,7 +64,14 @@ noReport =
 abbrev pub telling : Refusal → Report → Answer
 telling r report = record { refusal = r; report = report }
 
--- a refusal, or the report beside none; blocks are counted from 1 here and from 0 in the slots
+-- the report of a block, or 14, of a case that is not refused before; blocks are counted from 1 here and from 0 in the slots
+unfoldable pub reportOfCase : Case → ℕ → Answer
+reportOfCase c number =
+    let block = number - 1 in
+    let r = naming c number in
+    telling r (unlessRefused r (reportOf (c .grid) (blockOf (c .slots) block) (topOf (c .grid) block)) noReport)
+
+-- a refusal, or the report beside none
 unfoldable pub reportAnswer : Case → ℕ → Answer
 reportAnswer c number =
     let block = number - 1 in

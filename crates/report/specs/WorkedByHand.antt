@@ -5,6 +5,7 @@ use Prim.Native.Nat.{ℕ}
 use lib.Ieee.{Float, fin}
 use lib.IntN.{negℤ, pos, ℤ}
 use Rattle.grid.specs.declared.Grid.{Grid}
+use Rattle.grid.specs.Record.{recordOf}
 use Rattle.slots.specs.declared.Block.{Block}
 use Rattle.slots.specs.Units.{mostLevel}
 use Rattle.slices.specs.Slices.{unlessRefused}
@@ -22,7 +23,7 @@ use Rattle.flow.specs.Litres.{litresOf}
 
 -- "δ 40", "over 30 days", and the water-table flag of a row
 abbrev pub gridWith : ℕ → Grid
-gridWith flag = record { columns = 1; rows = 1; layers = 1; delta = pos 40; flag = flag; step = pos 30; tolerance = pos 5 }
+gridWith flag = recordOf 1 1 1 (pos 40) flag (pos 30) (pos 5)
 
 -- "Base -204,800, thickness 245,760, δ 40, salt head 0 for a to c." "Porosity 200", and the fresh head and the pumpage of a row
 abbrev pub blockWith : ℤ → ℤ → Block

@@ -5,11 +5,19 @@ ghost use lib.ListN.{length};
 ghost use Rattle.grid.specs.Judging.{Termed};
 ghost use Rattle.grid.specs.Place.{Counted, blocksOf};
 ghost use Rattle.slots.specs.Slots.{Ends};
-ghost use Rattle.slices.specs.Slices.{caseOf};
+ghost use Rattle.slices.specs.Slices.{caseOf, Judged};
 ghost use Rattle.whole.specs.Whole.{Abs};
 ghost use Rattle.block.specs.Units.{mostInterface};
 ghost use Rattle.block.specs.Fluids.{Heads, Thick};
-ghost use Rattle.report.specs.Reports.{inMetres, reportOf, namesActive, noReport, telling, reportAnswer};
+ghost use Rattle.report.specs.Reports.{
+  inMetres,
+  reportOf,
+  namesActive,
+  noReport,
+  telling,
+  reportOfCase,
+  reportAnswer,
+};
 use block::Fluids;
 use block::density::interface;
 use block::geometry::levels_of;
@@ -101,6 +109,34 @@ fn names_active(g: Grid, slots: &[i64], number: usize) -> bool
     is_active(slots, number - 1)
 }
 
+// "for a report 14": the report of a block by its number, counted from 1, in a case that is not refused before. Inner: 3, 7, 4, 5 and 6 do not refuse
+// the case.
+pub fn report_of_case(
+    g: Grid,
+    columns: &[i64],
+    rows: &[i64],
+    slots: &[i64],
+    number: usize,
+) -> Answer
+    requires { ⌜ Judged (caseOf g (now columns) (now rows) (now slots)) ⌝ }
+    ensures { λ r. ⌜ r ≡ reportOfCase (caseOf g (now (columns .entry)) (now (rows .entry)) (now (slots .entry))) number ⌝ }
+{
+    if !names_active(g, slots, number) {
+        return refused(Refusal {
+            number: 14,
+            block: number,
+        });
+    }
+    let block = number - 1;
+    Answer {
+        refusal: Refusal {
+            number: 0,
+            block: 0,
+        },
+        report: report_of(g, load(slots, block), is_top(g, block)),
+    }
+}
+
 // The report of a block of a case in slices, by its number, counted from 1, or what it is refused with: 3, 7, 4, 5, 6, 9 or 10, and then 14, which
 // names the number asked for. `columns` and `rows` are the widths in metres. Any numbers, and slices of any length, are answered.
 pub fn block_report(g: Grid, columns: &[i64], rows: &[i64], slots: &[i64], number: usize) -> Answer
@@ -110,15 +146,5 @@ pub fn block_report(g: Grid, columns: &[i64], rows: &[i64], slots: &[i64], numbe
     if refusal.number != 0 {
         return refused(refusal);
     }
-    if !names_active(g, slots, number) {
-        return refused(Refusal {
-            number: 14,
-            block: number,
-        });
-    }
-    let block = number - 1;
-    Answer {
-        refusal,
-        report: report_of(g, load(slots, block), is_top(g, block)),
-    }
+    report_of_case(g, columns, rows, slots, number)
 }

@@ -1,8 +1,8 @@
 -- Laws of what is printed: how many lines tables have, and what stands beside an answer. Assumes nothing.
-use mathlib.Core.Bool.{Bool, cond, false, true}
+use mathlib.Core.Bool.{Bool, _||_, cond, false, true, true≢false}
 use mathlib.Core.List.{List, _++_, append-assoc}
-use mathlib.Core.Logic.{⊎-elim}
-use mathlib.Core.Path.{_∙_, _≡_, refl}
+use mathlib.Core.Logic.{_≢_, ⊎-elim}
+use mathlib.Core.Path.{_∙_, _≡_, refl, sym}
 use Prim.Native.Nat.{_*_, _+_, _<_, _≤_, suc, zero, ℕ}
 use native.Mathlib.Decide.{decLt, ℕ-discrete}
 use native.Mathlib.Nat.{eq-or-lt-of-le, le-of-suc-le-suc}
@@ -14,14 +14,17 @@ use lib.ListN.{drop, length, length-append, replicate, take}
 use lib.Seq.{drop-at, take-at}
 use borrow.Author.Tests.{eq-eqb, le-ltb, lt-ltb, ne-eqb}
 use Rattle.whole.specs.Lent.{over}
+use Rattle.whole.proofs.SearchLaws.{not-left, not-right}
 use Rattle.slices.specs.declared.Refusal.{Refusal}
 use Rattle.slices.specs.Slices.{Case, caseOf, none, refusal}
-use Rattle.slices.proofs.SlicesLaws.{none-refused}
+use Rattle.slices.proofs.SlicesLaws.{none-together}
 use Rattle.wellformed.specs.Limits.{checkedOf, checksOf}
-use Rattle.wellformed.proofs.LimitsLaws.{checked-stands}
-use Rattle.verdict.specs.declared.Answer.{Answer}
+use Rattle.books.specs.Waters.{wellChecks}
+use Rattle.books.proofs.WatersLaws.{wet-wells}
+use Rattle.balance.specs.Balance.{balancesOf}
 use Rattle.verdict.specs.declared.Verdict.{Verdict}
-use Rattle.verdict.specs.Ruling.{verdictAnswer}
+use Rattle.verdict.specs.Ruling.{verdictAnswer, verdictOf}
+use Rattle.verdict.proofs.AcceptanceLaws.{ruled-wet}
 use Rattle.budget.specs.Answers.{caseRefusal, eighteenOf, everywhere, layerAnswer, layerZone, tabled, wholeAnswer}
 use Rattle.budget.specs.Table.{rowOf}
 use Rattle.casefile.specs.Reading.{Read, readingOf}
@@ -75,38 +78,38 @@ layer-among c n (suc m) rest l =
     (λ less. layer-among c n m (lines ++ rest) less)
     (eq-or-lt-of-le (le-of-suc-le-suc l)))
 
--- ---- what stands beside an answer
+-- ---- what stands beside a refusal, or a verdict
 
--- an answer of `verdict_of_slices`
-module _ (c : Case) {a : Answer} (told : a ≡ verdictAnswer c) where
-  -- the answer's refusal is that of the case
-  checked : a .refusal ≡ checkedOf c
-  unfolding verdictAnswer
-  checked = λ i. told i .refusal
+not-either : (m n code : ℕ) → eqb code m || eqb code n ≡ false → (code ≢ m) × (code ≢ n)
+not-either m n code f = (λ e. true≢false (sym (eq-eqb code m e) ∙ not-left (eqb code m) (eqb code n) f), λ e. true≢false (sym (eq-eqb code n e) ∙ not-right (eqb code m) (eqb code n) f))
 
-  -- where it refuses nothing it is none
-  unrefused : a .refusal .number ≡ 0 → a .refusal ≡ none
-  unrefused z = checked ∙ none-refused (checksOf c) (rw (← checked) z)
-
-  -- a case that is not refused has at most eight layers
-  pub layers-few : a .refusal .number ≡ 0 → c .grid .layers ≤ 8
-  layers-few z = checked-stands c (rw (← checked) z) .judged .counted .layers-most
-
+module _ (c : Case) where
   -- the numbers of a refusal
-  pub session-refused : (a .refusal .number ≡ 0 → ⊥) → refusing (a .refusal) ≡ sessionOf c
-  unfolding sessionOf
-  session-refused n = rw (← told, ne-eqb (a .refusal .number) 0 n)
+  pub session-refused : {r : Refusal} → r ≡ checkedOf c → (r .number ≡ 0 → ⊥) → refusing r ≡ sessionOf c
+  unfolding sessionOf verdictAnswer
+  session-refused {r} told n = rw (← told, ne-eqb (r .number) 0 n)
+
+  -- or what is printed beside the verdict on the case
+  pub session-ruled : checkedOf c .number ≡ 0 → ruling c (verdictOf c) ≡ sessionOf c
+  unfolding sessionOf verdictAnswer
+  session-ruled e = rw (eq-eqb (checkedOf c .number) 0 e)
 
   -- a verdict alone
-  pub session-alone : a .refusal .number ≡ 0 → firstLineOnly (a .verdict .code) ≡ true → record { refusal = a .refusal; verdict = a .verdict; tables = 0; lines = noTables } ≡ sessionOf c
-  unfolding sessionOf ruling
-  session-alone z f = rw (← told, eq-eqb (a .refusal .number) 0 z, f, unrefused z)
+  pub ruling-alone : (v : Verdict) → firstLineOnly (v .code) ≡ true → alone v ≡ ruling c v
+  unfolding ruling
+  ruling-alone v f = rw f
 
   -- a verdict and the tables
-  pub session-tables : {lines : List ℤ} → a .refusal .number ≡ 0 → firstLineOnly (a .verdict .code) ≡ false → lines ≡ over (tablesOf c) noTables →
-      record { refusal = a .refusal; verdict = a .verdict; tables = c .grid .layers + 1; lines = lines } ≡ sessionOf c
-  unfolding sessionOf ruling
-  session-tables z f e = rw (← told, eq-eqb (a .refusal .number) 0 z, f, unrefused z, e)
+  pub ruling-tables : (v : Verdict) {lines : List ℤ} → firstLineOnly (v .code) ≡ false → lines ≡ over (tablesOf c) noTables → record { refusal = none; verdict = v; tables = c .grid .layers + 1; lines = lines } ≡ ruling c v
+  unfolding ruling
+  ruling-tables v f e = rw (f, e)
+
+  -- beside which no well is dry
+  pub tables-wet : checkedOf c .number ≡ 0 → firstLineOnly (verdictOf c .code) ≡ false → caseRefusal c .number ≡ 0
+  unfolding verdictOf
+  tables-wet e f =
+      let codes = not-either 21 22 (verdictOf c .code) f in
+      none-together (checksOf c) (wellChecks c) e (wet-wells c (ruled-wet (c .grid) (c .slots) (balancesOf c) (codes .0) (codes .1)))
 
 -- where tables are printed the lines are theirs
 pub tables-lines : (c : Case) → sessionOf c .tables ≡ c .grid .layers + 1 → sessionOf c .lines ≡ over (tablesOf c) noTables
@@ -130,11 +133,11 @@ ruling-verdict c v = go (firstLineOnly (v .code))
 
 -- a session that is no refusal has the answer's verdict, on a case that is not refused
 pub session-unrefused : (c : Case) → sessionOf c .refusal .number ≡ 0 → (checkedOf c .number ≡ 0) × (sessionOf c .verdict ≡ verdictAnswer c .verdict)
-unfolding sessionOf
+unfolding sessionOf verdictAnswer
 session-unrefused c = go (ℕ-discrete (verdictAnswer c .refusal .number) 0)
   where
     go : Dec (verdictAnswer c .refusal .number ≡ 0) → sessionOf c .refusal .number ≡ 0 → (checkedOf c .number ≡ 0) × (sessionOf c .verdict ≡ verdictAnswer c .verdict)
-    go (yes h) e = (rw (checked c refl) at h, rw (eq-eqb (verdictAnswer c .refusal .number) 0 h) (ruling-verdict c (verdictAnswer c .verdict)))
+    go (yes h) e = (h, rw (eq-eqb (verdictAnswer c .refusal .number) 0 h) (ruling-verdict c (verdictOf c)))
     go (no h) e = absurd (h (rw (ne-eqb (verdictAnswer c .refusal .number) 0 h) at e))
 
 -- ---- a file

@@ -12,7 +12,7 @@ use Rattle.slices.specs.Slices.{Case, caseOf, none, refusal, unlessRefused}
 use Rattle.verdict.specs.declared.Verdict.{Verdict}
 use Rattle.verdict.specs.Ruling.{verdictAnswer, noVerdict}
 use Rattle.budget.specs.Answers.{layerAnswer, wholeAnswer}
-use Rattle.casefile.specs.Fields.{mostSlots}
+use Rattle.fields.specs.Fields.{mostSlots}
 use Rattle.casefile.specs.Reading.{Read, readingOf}
 use Rattle.session.specs.declared.Session.{Session}
 

@@ -22,7 +22,7 @@ use Rattle.slots.specs.Slots.{partOf}
 use Rattle.slots.specs.Units.{slotsEach}
 use Rattle.slots.proofs.SlotsLaws.{slots-active, slots-inactive}
 use Rattle.slices.specs.declared.Refusal.{Refusal}
-use Rattle.slices.specs.Slices.{Case, Judged, Roomy, blaming, contentsOf, faultOf, firstRefusal, judgedOf, mostWidth, none, orElse, refusal, roomHolds, shapeOf, unless, widthsHold}
+use Rattle.slices.specs.Slices.{Case, Judged, Roomy, blaming, contentsOf, faultOf, firstRefusal, judgedLent, judgedOf, lentOf, mostWidth, none, orElse, refusal, roomHolds, shapeOf, unless, widthsHold}
 
 -- ---- the order of refusals
 
@@ -92,6 +92,10 @@ unfolding firstRefusal
 unless-alone n true h = sym (or-next none none refl)
 unless-alone n false h = sym (or-first (refusal n 0) none h)
 
+pub unless-passes : (n : ℕ) (b : Bool) → T b → firstRefusal (unless n b ∷ []) .number ≡ 0
+unfolding firstRefusal orElse
+unless-passes n true t = refl
+
 -- a refusal among those judged, wherever in their order
 pub data Among (x : Refusal) : List Refusal → Type 0 where
   here : {xs : List Refusal} → Among x (x ∷ xs)
@@ -110,6 +114,27 @@ holds-among n false h m e = h (none-among m e)
 pub blames-none : (n b : ℕ) {xs : List Refusal} → (n ≡ 0 → ⊥) → Among (blaming n b) xs → firstRefusal xs .number ≡ 0 → b ≡ 0
 blames-none n zero h m e = refl
 blames-none n (suc b) h m e = absurd (h (none-among m e))
+
+-- ---- 7, of all that is lent
+
+module _ (c : Case) (reaches : Bool) where
+  -- where 3 and 7 do not refuse the case itself, what is lent besides decides
+  pub lent-alone : firstRefusal (shapeOf c) .number ≡ 0 → unless 7 reaches ≡ firstRefusal (lentOf c reaches)
+  unfolding lentOf
+  lent-alone e = first-goes-on (shapeOf c) (unless 7 reaches ∷ []) (firstRefusal (shapeOf c)) refl (unless 7 reaches) e (unless-alone 7 reaches (omega arith))
+
+  -- where neither refuses, the case itself is not refused so far, and what is lent besides is long enough
+  pub lent-apart : firstRefusal (lentOf c reaches) .number ≡ 0 → (firstRefusal (shapeOf c) .number ≡ 0) × T reaches
+  unfolding lentOf
+  lent-apart e =
+      let h = none-apart (shapeOf c) (unless 7 reaches ∷ []) e in
+      (h .0, holds-among 7 reaches (omega arith) here (h .1))
+
+  pub judged-apart : judgedLent c reaches .number ≡ 0 → (judgedOf c .number ≡ 0) × T reaches
+  judged-apart e =
+      let h = none-apart (lentOf c reaches) (contentsOf c) e in
+      let l = lent-apart (h .0) in
+      (none-together (shapeOf c) (contentsOf c) (l .0) (h .1), l .1)
 
 -- ---- what holds of a case that is not refused
 

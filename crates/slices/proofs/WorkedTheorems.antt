@@ -9,6 +9,7 @@ use Rattle.whole.specs.Search.{every, firstOf}
 use Rattle.whole.specs.Ranges.{inRange, allWithin}
 use Rattle.grid.specs.declared.Grid.{Grid}
 use Rattle.grid.specs.Place.{placeOf, topOf}
+use Rattle.grid.specs.Record.{recordOf}
 use Rattle.grid.specs.Judging.{countsHold, termsHold}
 use Rattle.slots.specs.Ranges.{rangeOf, endsHold}
 use Rattle.slots.specs.Slots.{slotsAt}
@@ -16,7 +17,7 @@ use Rattle.slots.specs.Rules.{allZero, screenWithin, screensHold, layerHolds, b
 use Rattle.slices.specs.Slices.{Case, caseOf, none, refusal, orElse, firstRefusal, roomHolds, widthsHold, faultOf, shapeOf, contentsOf, judgedOf}
 
 abbrev pub sized : ℕ → ℕ → ℕ → Grid
-sized columns rows layers = record { columns = columns; rows = rows; layers = layers; delta = pos 40; flag = 0; step = pos 30; tolerance = pos 5 }
+sized columns rows layers = recordOf columns rows layers (pos 40) 0 (pos 30) (pos 5)
 
 -- 64 x 8 x 1 blocks are refused neither with 3 nor, in slices that are long enough, with 7
 pub blocks-512-pass : (columns rows slots : List ℤ) → 64 ≤ length columns → 8 ≤ length rows → 8192 ≤ length slots → firstRefusal (shapeOf (caseOf (sized 64 8 1) columns rows slots)) ≡ none

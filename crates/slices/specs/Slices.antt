@@ -93,6 +93,18 @@ contentsOf c =
 abbrev pub judgedOf : Case → Refusal
 judgedOf c = firstRefusal (shapeOf c ++ contentsOf c)
 
+-- 3 and 7 where more is lent than the case itself, marks or room for an answer: 7, "a lent slice is too short", of that too
+unfoldable pub lentOf : Case → Bool → List Refusal
+lentOf c reaches = shapeOf c ++ (unless 7 reaches ∷ [])
+
+-- "Slices are judged 3, 7, 4, 5, 6", with all that is lent in 7's place
+abbrev pub judgedLent : Case → Bool → Refusal
+judgedLent c reaches = firstRefusal (lentOf c reaches ++ contentsOf c)
+
+-- whether a slice of so many numbers reaches over a grid, with so many to a block; the counts are to be in range, or 3 comes first
+abbrev pub reachesOver : Grid → ℕ → ℕ → Bool
+reachesOver g each room = countsHold g && leb (each * blocksOf g) room
+
 -- ---- what later parts require of a case: what it is not refused for
 
 -- 7: the lent slices are long enough

@@ -11,7 +11,8 @@ ghost use Rattle.slices.specs.Slices.{
   faultOf,
   shapeOf,
   contentsOf,
-  judgedOf,
+  judgedLent,
+  reachesOver,
   firstRefusal,
   Roomy,
 };
@@ -30,6 +31,12 @@ pub struct Refusal {
     pub number: u64,
     pub block: usize,
 }
+
+// 7: "a lent slice is too short".
+pub const SHORT: Refusal = Refusal {
+    number: 7,
+    block: 0,
+};
 
 // Metres.
 const MOST_WIDTH: i64 = 4_096;
@@ -92,10 +99,7 @@ pub fn shape(g: Grid, columns: &[i64], rows: &[i64], slots: &[i64]) -> Refusal
         };
     }
     if !room_holds(g, columns, rows, slots) {
-        return Refusal {
-            number: 7,
-            block: 0,
-        };
+        return SHORT;
     }
     Refusal {
         number: 0,
@@ -131,14 +135,30 @@ fn contents(g: Grid, columns: &[i64], rows: &[i64], slots: &[i64]) -> Refusal
     }
 }
 
+// Whether a slice of `room` numbers reaches over a grid, with `each` numbers to a block. Of counts that are out of range it says no. Inner: a block
+// takes at most sixteen.
+pub fn reaches_over(g: Grid, each: usize, room: usize) -> bool
+    requires { ⌜ each ≤ 16 ⌝ }
+    ensures { λ r. ⌜ r ≡ reachesOver g each room ⌝ }
+{
+    if counts_hold(g) {
+        return each * blocks(g) <= room;
+    }
+    false
+}
+
 // The first of 3, 7, 4, 5 and 6 that a case in slices is refused with, and the block that it names. `columns` and `rows` are the
-// widths in metres. Any numbers, and slices of any length, are judged.
-pub fn judge_ranges(g: Grid, columns: &[i64], rows: &[i64], slots: &[i64]) -> Refusal
-    ensures { λ r. ⌜ r ≡ judgedOf (caseOf g (now (columns .entry)) (now (rows .entry)) (now (slots .entry))) ⌝ }
+// widths in metres; `reaches` says whether what is lent besides is long enough, and 7 is of that too. Any numbers, and slices of any length,
+// are judged.
+pub fn judge_ranges(g: Grid, columns: &[i64], rows: &[i64], slots: &[i64], reaches: bool) -> Refusal
+    ensures { λ r. ⌜ r ≡ judgedLent (caseOf g (now (columns .entry)) (now (rows .entry)) (now (slots .entry))) reaches ⌝ }
 {
     let first = shape(g, columns, rows, slots);
     if first.number != 0 {
         return first;
+    }
+    if !reaches {
+        return SHORT;
     }
     contents(g, columns, rows, slots)
 }

@@ -116,9 +116,11 @@ pub fn ends_hold(part: &[i64]) -> bool
     requires { ⌜ 16 ≤ length (now part) ⌝ }
     ensures { λ r. ⌜ r ≡ endsHold (now (part .entry)) ⌝ }
 {
+    let table = RANGES;
     for slot in 0..SLOTS_EACH {
         let value = part[slot];
-        if !in_range(range_of(slot), value) {
+        let range = table[slot];
+        if !in_range(range, value) {
             return false;
         }
     }

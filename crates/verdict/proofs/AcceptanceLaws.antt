@@ -15,7 +15,8 @@ use Rattle.grid.specs.declared.Grid.{Grid}
 use Rattle.grid.specs.Place.{blocksOf}
 use Rattle.block.specs.declared.Fluids.{Fluids}
 use Rattle.block.specs.Fluids.{inFluid}
-use Rattle.verdict.specs.Acceptance.{Earlier, First, Nowhere, Wet}
+use Rattle.books.specs.Waters.{Wet}
+use Rattle.verdict.specs.Acceptance.{Earlier, First, Nowhere}
 use Rattle.verdict.specs.Places.{countedAt, countedBy, failsAt, freeAt, freeSizeOf, movedAt, placesOf, sizeOf}
 use Rattle.verdict.specs.Ruling.{byBalance, codeOf, concerning, firstPlace, largestOf, verdictBy}
 use Rattle.verdict.proofs.PlacesLaws.{block-below, counted-by, fluid-below, free-size-is, place-is}
@@ -102,6 +103,16 @@ module _ (g : Grid) (slots : List ℤ) (β : ℕ → Fluids) where
 
   pub passed-code : firstPlace g slots β 23 ≡ 0 → verdictBy g slots β ≡ byBalance g slots β → verdictBy g slots β .code ≡ 0
   passed-code f r = balance-code g slots β r ∙ ap codeOf f
+
+  -- any other code is that of a case without a dry well
+  pub ruled-wet : verdictBy g slots β .code ≢ 21 → verdictBy g slots β .code ≢ 22 → Wet g slots
+  ruled-wet h k = go (way g slots β)
+    where
+      go : Way g slots β → Wet g slots
+      go (moved p e r) = absurd (h (moved-code r))
+      go (dry p e d r) = absurd (k (dry-code r))
+      go (failing p e d f r) = none-dry d
+      go (passed e d f r) = none-dry d
 
   -- ---- the largest balance
 

@@ -19,9 +19,9 @@ use Rattle.slices.specs.Slices.{Case}
 use Rattle.block.specs.declared.Fluids.{Fluids}
 use Rattle.block.specs.Fluids.{inFluid}
 use Rattle.wellformed.specs.Limits.{checkedOf}
-use Rattle.books.specs.Waters.{dryAt}
+use Rattle.books.specs.Waters.{Wet, dryAt}
 use Rattle.balance.specs.Balance.{balancesOf}
-use Rattle.verdict.specs.Acceptance.{Accepted, First, Nowhere, Wet}
+use Rattle.verdict.specs.Acceptance.{Accepted, First, Nowhere}
 use Rattle.verdict.specs.Places.{countedAt, failsAt, freeAt, freeSizeOf, movedAt, placesOf, sizeOf}
 use Rattle.verdict.specs.Ruling.{verdictAnswer, blockNumber, byBalance, countOf, firstPlace, largestOf, verdictBy, verdictOf}
 use Rattle.verdict.proofs.AcceptanceLaws.{bounds-all, dry-code, dry-none, failing-code, fails-counted, fails-none, first-as, first-told, largest-told, moved-code, moved-none, none-dry, none-fails, none-moved, passed-code, reached-all, told-first}

@@ -14,13 +14,9 @@ use Rattle.slots.specs.Slots.{blockOf}
 use Rattle.block.specs.declared.Fluids.{Fluids}
 use Rattle.block.specs.Fluids.{inFluid, newHeads, oldHeads}
 use Rattle.wellformed.specs.Links.{activeOf}
-use Rattle.books.specs.Waters.{dryAt}
+use Rattle.books.specs.Waters.{Wet}
 use Rattle.books.specs.Own.{fixedOf}
 use Rattle.verdict.specs.Places.{freeAt, sizeOf}
-
--- no well is dry: "22 if any well is dry"
-abbrev pub Wet : Grid → List ℤ → Type 0
-Wet g slots = (i : ℕ) → i < blocksOf g → dryAt g slots i ≡ false
 
 -- The client's demand 2: "Heads are accepted exactly when fixed heads stand, no well in use is dry, and every block's balance is within tolerance in each
 -- fluid whose head it leaves free, by document 01."

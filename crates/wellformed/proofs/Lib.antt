@@ -2,6 +2,7 @@
 pub mod LinksLaws
 pub mod WidthsLaws
 pub mod LimitsLaws
+pub mod QuickLaws
 pub mod RoomLaws
 pub mod WorkedTheorems
 pub mod OutcomeTheorems

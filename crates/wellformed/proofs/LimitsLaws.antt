@@ -1,19 +1,21 @@
 -- What a case that is not refused gives: the law that it is well formed, and what follows for a face's flow. Assumes nothing.
-use mathlib.Core.Bool.{_||_, false}
-use mathlib.Core.List.{_++_}
-use mathlib.Core.Path.{_≡_}
-use Prim.Native.Nat.{_+_, _<_, _≤_, suc, zero, ℕ}
+use mathlib.Core.Bool.{Bool, _||_, false, true}
+use mathlib.Core.List.{[], _++_, _∷_}
+use mathlib.Core.Path.{_∙_, _≡_, ap, refl}
+use Prim.Native.Nat.{_*_, _+_, _<_, _≤_, suc, zero, ℕ}
 use native.Mathlib.Omega.{arith}
-use lib.Dec.{T}
+use lib.Dec.{T, leb}
 use lib.IntN.{pos, ℤ}
 use lib.Signed.{_≤ℤ_, ltZ}
 use Rattle.whole.proofs.OrderLaws.{≤ℤ-trans}
 use Rattle.whole.proofs.RangeLaws.{lt-false}
-use Rattle.whole.proofs.SearchLaws.{first-none, not-left, not-right, not-second}
+use Rattle.whole.proofs.SearchLaws.{first-none, not-left, not-right, not-second, true-is}
+use Rattle.grid.specs.Judging.{countsHold}
 use Rattle.grid.specs.Place.{blocksOf, strideOf}
 use Rattle.grid.specs.Units.{nextRow}
-use Rattle.slices.specs.Slices.{Case, Judged, contentsOf, firstRefusal, judgedOf, shapeOf}
-use Rattle.slices.proofs.SlicesLaws.{blames-none, first-append, here, judged-stands, later, or-none}
+use Rattle.slices.specs.declared.Refusal.{Refusal}
+use Rattle.slices.specs.Slices.{Case, Judged, contentsOf, firstRefusal, judgedOf, lentOf, orElse, reachesOver, roomHolds, shapeOf, unless}
+use Rattle.slices.proofs.SlicesLaws.{blames-none, first-append, here, judged-apart, judged-stands, later, none-apart, none-together, or-none}
 use Rattle.block.specs.Fluids.{fresh, salt}
 use Rattle.block.specs.Geometry.{aquiferTopOf, kOf}
 use Rattle.flow.specs.declared.lateral.Behind.{Behind}
@@ -21,7 +23,7 @@ use Rattle.flow.specs.declared.lateral.Side.{Side}
 use Rattle.flow.specs.Lateral.{BehindIn, SideIn, faceConductanceOf}
 use Rattle.flow.specs.Litres.{mostConductance, overAreaOf}
 use Rattle.flow.proofs.LateralLaws.{through-most}
-use Rattle.wellformed.specs.Limits.{Conducts, WellFormed, aboveExceeds, atFault, blockExceeds, boundaryExceeds, checkedOf, eitherExceeds, exceeds, faceExceeds, firstAtFault, greatestOf, acrossIn, limitsOf, blockIn, overlaps}
+use Rattle.wellformed.specs.Limits.{Conducts, WellFormed, aboveExceeds, atFault, blockExceeds, boundaryExceeds, checkedLent, checkedOf, eitherExceeds, exceeds, faceExceeds, firstAtFault, greatestOf, acrossIn, limitsOf, blockIn, overlaps}
 use Rattle.wellformed.specs.Links.{activeOf, liveOf}
 use Rattle.wellformed.specs.Widths.{areaOf, faceOf}
 use Rattle.wellformed.proofs.LinksLaws.{live-high, live-low, live-next, live-inside}
@@ -109,6 +111,42 @@ checked-stands c e =
       leakage = λ i l t. within-above c (h .1) i l t;
       boundary = λ i l a. within-boundary c (h .1) i l a;
     }
+
+-- ---- more is lent than the case itself
+
+-- nothing more
+pub lent-reaches : (c : Case) → checkedLent c true ≡ checkedOf c
+unfolding lentOf shapeOf firstRefusal orElse
+lent-reaches c = refl
+
+-- whether it is long enough is asked where the counts are in range: 3 comes first
+lent-same : (c : Case) (a b : Bool) → (T (countsHold (c .grid)) → a ≡ b) → checkedLent c a ≡ checkedLent c b
+unfolding lentOf shapeOf firstRefusal orElse
+lent-same c a b h = go (countsHold (c .grid)) h
+  where
+    checked : Bool → Bool → Refusal
+    checked counted reaches = firstRefusal ((((unless 3 counted ∷ unless 7 (roomHolds c) ∷ []) ++ (unless 7 reaches ∷ [])) ++ contentsOf c) ++ limitsOf c)
+
+    go : (counted : Bool) → (T counted → a ≡ b) → checked counted a ≡ checked counted b
+    go true h = ap (checked true) (h tt)
+    go false h = refl
+
+-- so that a slice with `each` numbers to a block is measured by the blocks, alone or beside others
+pub lent-reached : (c : Case) (f : Bool → Bool) (each room need : ℕ) → each * blocksOf (c .grid) ≡ need → checkedLent c (f (reachesOver (c .grid) each room)) ≡ checkedLent c (f (leb need room))
+lent-reached c f each room need e =
+    lent-same c (f (reachesOver (c .grid) each room)) (f (leb need room))
+    (λ t. ap f (rw (true-is {b = countsHold (c .grid)} t) (ap (λ (n : ℕ). leb n room) e)))
+
+-- where nothing is refused, the case itself is not, and all is long enough
+pub lent-stands : (c : Case) (reaches : Bool) → checkedLent c reaches .number ≡ 0 → (checkedOf c .number ≡ 0) × T reaches
+lent-stands c reaches e =
+    let h = none-apart (lentOf c reaches ++ contentsOf c) (limitsOf c) e in
+    let judged = judged-apart c reaches (h .0) in
+    (none-together (shapeOf c ++ contentsOf c) (limitsOf c) (judged .0) (h .1), judged .1)
+
+-- and the other way round
+pub stands-lent : (c : Case) (reaches : Bool) → checkedOf c .number ≡ 0 → T reaches → checkedLent c reaches .number ≡ 0
+stands-lent c reaches e t = ap (λ b. checkedLent c b .number) (true-is {b = reaches} t) ∙ ap (λ r. r .number) (lent-reaches c) ∙ e
 
 -- In a well-formed case no face conducts beyond the limit, whatever of the two aquifers the fluid fills.
 pub face-passes :

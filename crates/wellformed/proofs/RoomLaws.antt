@@ -53,7 +53,7 @@ part-same : (n i : ℕ) (s t : List ℤ) → SameTo (slotsEach * n) s t → i < 
 part-same n i s t h l k m = getD-drop (slotsEach * i) s k (pos 0) ∙ h (slotsEach * i + k) (omega arith) ∙ sym (getD-drop (slotsEach * i) t k (pos 0))
 
 -- one of n blocks
-block-same : (n i : ℕ) (s t : List ℤ) → SameTo (slotsEach * n) s t → i < n → blockOf s i ≡ blockOf t i
+pub block-same : (n i : ℕ) (s t : List ℤ) → SameTo (slotsEach * n) s t → i < n → blockOf s i ≡ blockOf t i
 block-same n i s t h l = slots-same (partOf s i) (partOf t i) (part-same n i s t h l)
 
 -- ---- two cases
@@ -97,24 +97,24 @@ module _ (g : Grid) (c₁ r₁ s₁ c₂ r₂ s₂ : List ℤ) (alike : Alike (c
     high-same d t = block-same (blocksOf g) (i + strideOf g d) s₁ s₂ (alike .slots) (next-inside g counted d i l t)
 
     -- the widths at its place, its area and its faces
-    column-same : widthAt c₁ (placeOf g i .column) ≡ widthAt c₂ (placeOf g i .column)
+    pub column-same : widthAt c₁ (placeOf g i .column) ≡ widthAt c₂ (placeOf g i .column)
     column-same = alike .columns (placeOf g i .column) (place-inside g counted i l .column)
 
-    row-same : widthAt r₁ (placeOf g i .row) ≡ widthAt r₂ (placeOf g i .row)
+    pub row-same : widthAt r₁ (placeOf g i .row) ≡ widthAt r₂ (placeOf g i .row)
     row-same = alike .rows (placeOf g i .row) (place-inside g counted i l .row)
 
-    area-same : areaOf one i ≡ areaOf two i
+    pub area-same : areaOf one i ≡ areaOf two i
     unfolding areaAt
     area-same = ap₂ _*ℤ_ column-same row-same
 
-    face-same : (d : ℕ) → d ≤ nextRow → T (nextOf g d i) → faceOf one d i ≡ faceOf two d i
+    pub face-same : (d : ℕ) → d ≤ nextRow → T (nextOf g d i) → faceOf one d i ≡ faceOf two d i
     unfolding nextOf hasNext
     face-same zero h t = λ k. record { low = column-same k; high = alike .columns (placeOf g i .column + 1) (ltb→lt _ _ t) k; across = row-same k }
     face-same (suc zero) h t = λ k. record { low = row-same k; high = alike .rows (placeOf g i .row + 1) (ltb→lt _ _ t) k; across = column-same k }
     face-same (suc (suc d)) h t = absurd (omega arith)
 
     -- a link is live, or not
-    live-same : (d : ℕ) → liveOf g s₁ d i ≡ liveOf g s₂ d i
+    pub live-same : (d : ℕ) → liveOf g s₁ d i ≡ liveOf g s₂ d i
     unfolding liveOf
     live-same d =
         and-same (nextOf g d i) (nextOf g d i) (activeOf s₁ i && activeOf s₁ (i + strideOf g d)) (activeOf s₂ i && activeOf s₂ (i + strideOf g d)) refl

@@ -3,7 +3,7 @@ use mathlib.Core.Bool.{Bool, _&&_, _||_, cond}
 use mathlib.Core.List.{List, [], _++_, _∷_}
 use Prim.Native.Nat.{_+_, _<_, _≤_, ℕ}
 use lib.Dec.{T, eqb}
-use lib.IntN.{pos, ℤ}
+use lib.IntN.{_*ℤ_, _+ℤ_, pos, ℤ}
 use lib.Signed.{_≤ℤ_, ltZ}
 use Rattle.whole.specs.Search.{firstOf}
 use Rattle.whole.specs.Whole.{maxℤ}
@@ -14,12 +14,13 @@ use Rattle.grid.specs.Units.{above, nextColumn, nextRow}
 use Rattle.slots.specs.declared.Block.{Block}
 use Rattle.slots.specs.Slots.{Ends, blockOf}
 use Rattle.slices.specs.declared.Refusal.{Refusal}
-use Rattle.slices.specs.Slices.{Case, Judged, blaming, contentsOf, firstRefusal, shapeOf}
+use Rattle.slices.specs.Slices.{Case, Judged, blaming, contentsOf, firstRefusal, lentOf, shapeOf}
 use Rattle.block.specs.Fluids.{fresh, salt}
 use Rattle.block.specs.Geometry.{aquiferTopOf, kOf}
+use Rattle.block.specs.Units.{ticks}
 use Rattle.flow.specs.declared.lateral.Face.{Face}
 use Rattle.flow.specs.Lateral.{FaceIn, conductanceOf, faceKOf}
-use Rattle.flow.specs.Litres.{mostConductance, overAreaOf}
+use Rattle.flow.specs.Litres.{mostConductance, overAreaOf, overConductance}
 use Rattle.wellformed.specs.Links.{activeOf, liveOf}
 use Rattle.wellformed.specs.Widths.{areaOf, faceOf}
 
@@ -45,6 +46,11 @@ greatestOf g f a b fluid = conductanceOf f (faceKOf f (kOf g a fluid) (kOf g b f
 -- "of either fluid"
 unfoldable pub eitherExceeds : Grid → Face → Block → Block → Bool
 eitherExceeds g f a b = exceeds (greatestOf g f a b fresh) || exceeds (greatestOf g f a b salt)
+
+-- A face is far within the limit of 10 by the greater K and the greater aquifer thickness alone: Kf is at most twice that K in either fluid, and a quotient stays
+-- below a number where the dividend stays below the number times the divisor. A way to the answer, and no rule of its own.
+unfoldable pub farWithin : Face → ℤ → ℤ → Bool
+farWithin f K B = ltZ (pos 4 *ℤ K *ℤ B *ℤ f .across) (pos overConductance *ℤ ((f .low +ℤ f .high) *ℤ pos ticks))
 
 -- "10 counts faces between active blocks to the next column, next row"
 unfoldable pub faceExceeds : Case → ℕ → ℕ → Bool
@@ -80,6 +86,13 @@ checksOf c = (shapeOf c ++ contentsOf c) ++ limitsOf c
 -- the first of these that refuses the case
 abbrev pub checkedOf : Case → Refusal
 checkedOf c = firstRefusal (checksOf c)
+
+-- the same where more is lent than the case itself, marks or room for an answer, with 7 of that in 7's place
+abbrev pub lentChecksOf : Case → Bool → List Refusal
+lentChecksOf c reaches = (lentOf c reaches ++ contentsOf c) ++ limitsOf c
+
+abbrev pub checkedLent : Case → Bool → Refusal
+checkedLent c reaches = firstRefusal (lentChecksOf c reaches)
 
 -- ---- what is required of two active blocks and their face
 

@@ -6,7 +6,7 @@ pub mod widths;
 
 ghost use mathlib.Core.Path.{_≡_};
 ghost use Rattle.slices.specs.Slices.{caseOf, firstRefusal, Judged};
-ghost use Rattle.wellformed.specs.Limits.{limitsOf, checkedOf};
+ghost use Rattle.wellformed.specs.Limits.{limitsOf, checkedOf, checkedLent};
 use grid::Grid;
 use limits::first_at_fault;
 use slices::Refusal;
@@ -34,14 +34,22 @@ pub fn judge_limits(g: Grid, columns: &[i64], rows: &[i64], slots: &[i64]) -> Re
     }
 }
 
+// What a case in slices is refused with where more is lent than the case itself, marks or room for an answer: `reaches` says whether all of that is
+// long enough, and where it is not, 7 comes in 7's place. Any numbers, and slices of any length, are judged.
+pub fn check_lent(g: Grid, columns: &[i64], rows: &[i64], slots: &[i64], reaches: bool) -> Refusal
+    ensures { λ r. ⌜ r ≡ checkedLent (caseOf g (now (columns .entry)) (now (rows .entry)) (now (slots .entry))) reaches ⌝ }
+{
+    let first = judge_ranges(g, columns, rows, slots, reaches);
+    if first.number != 0 {
+        return first;
+    }
+    judge_limits(g, columns, rows, slots)
+}
+
 // The first of 3, 7, 4, 5, 6, 9 and 10 that a case in slices is refused with, and the block that it names, counted from 1; number 0 where
 // it is not refused. `columns` and `rows` are the widths in metres. Any numbers, and slices of any length, are judged.
 pub fn check_slices(g: Grid, columns: &[i64], rows: &[i64], slots: &[i64]) -> Refusal
     ensures { λ r. ⌜ r ≡ checkedOf (caseOf g (now (columns .entry)) (now (rows .entry)) (now (slots .entry))) ⌝ }
 {
-    let first = judge_ranges(g, columns, rows, slots);
-    if first.number != 0 {
-        return first;
-    }
-    judge_limits(g, columns, rows, slots)
+    check_lent(g, columns, rows, slots, true)
 }

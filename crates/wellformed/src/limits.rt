@@ -5,7 +5,8 @@ ghost use Prim.Native.Nat.{_≤_, _<_};
 ghost use lib.IntN.{pos};
 ghost use Rattle.whole.specs.Whole.{In};
 ghost use Rattle.grid.specs.Place.{blocksOf, placeOf};
-ghost use Rattle.slots.specs.Units.{mostLeakance};
+ghost use Rattle.slots.specs.Units.{mostK, mostLeakance, mostThickness};
+ghost use Rattle.flow.specs.Lateral.{FaceIn};
 ghost use Rattle.slices.specs.Slices.{caseOf, Judged};
 ghost use Rattle.flow.specs.Litres.{overAreaOf};
 ghost use Rattle.wellformed.specs.Widths.{areaAt, Placed};
@@ -14,6 +15,7 @@ ghost use Rattle.wellformed.specs.Limits.{
   exceeds,
   greatestOf,
   eitherExceeds,
+  farWithin,
   overlaps,
   faceExceeds,
   aboveExceeds,
@@ -30,6 +32,7 @@ use block::geometry::aquifer_top;
 use block::geometry::k_in;
 use block::units::FRESH;
 use block::units::SALT;
+use block::units::TICKS;
 use flow::lateral::Face;
 use flow::lateral::conductance;
 use flow::lateral::face_k;
@@ -50,6 +53,9 @@ use whole::greatest;
 // 10: "a conductance of either fluid exceeds 268,435,456", litres a day for each metre of head difference. The definitions name it in `flow`, whose
 // functions require it.
 const MOST_CONDUCTANCE: i64 = 268_435_456;
+
+// The least that exceeds it.
+const OVER_CONDUCTANCE: i64 = MOST_CONDUCTANCE + 1;
 
 // 9: "an active block's top lies above the base of the block directly above it, both active". Inner: 3, 7, 4, 5 and 6 do not refuse the
 // case, and the block is inside.
@@ -76,11 +82,26 @@ fn fluid_exceeds(g: Grid, face: Face, low: Block, high: Block, fluid: usize) -> 
     MOST_CONDUCTANCE < conductance(face, k, thickness)
 }
 
+// Whether a face is far within the limit in either fluid, by the greater K and the greater thickness alone. Inner: the numbers are in range.
+fn far_within(face: Face, k: i64, thickness: i64) -> bool
+    requires { ⌜ FaceIn face ⌝ }
+    requires { ⌜ In (pos 0) (pos mostK) k ⌝ }
+    requires { ⌜ In (pos 0) (pos mostThickness) thickness ⌝ }
+    ensures { λ r. ⌜ r ≡ farWithin face k thickness ⌝ }
+{
+    4 * k * thickness * face.across < OVER_CONDUCTANCE * ((face.low + face.high) * TICKS)
+}
+
 // The same in either fluid. Inner: the numbers are in range and both blocks active.
 fn either_exceeds(g: Grid, face: Face, low: Block, high: Block) -> bool
     requires { ⌜ Conducts g face low high ⌝ }
     ensures { λ r. ⌜ r ≡ eitherExceeds g face low high ⌝ }
 {
+    let k = greatest(low.k, high.k);
+    let thickness = greatest(low.thickness, high.thickness);
+    if far_within(face, k, thickness) {
+        return false;
+    }
     if fluid_exceeds(g, face, low, high, FRESH) {
         return true;
     }

@@ -9,4 +9,5 @@ pub mod SumLaws
 pub mod SearchLaws
 pub mod WithinLaws
 pub mod LentLaws
+pub mod ClosestLaws
 pub mod OutcomeTheorems

@@ -1,5 +1,6 @@
 // Whole numbers: floor, cut, the lesser, the greater, a number that is held between two (document 01, "Units and ranges").
 pub mod lent;
+pub mod nearest;
 pub mod ranges;
 
 ghost use mathlib.Core.Path.{_≡_};

@@ -1,5 +1,7 @@
--- Lines of a zone: what crosses its edge is what its blocks gain by flows, and marks beyond the grid do not matter. Assumes nothing.
-use mathlib.Core.Bool.{Bool, _&&_, false, not, true}
+-- Lines of a zone: what crosses its edge is what its blocks gain by flows, marks beyond the grid do not matter, and the same books give the same lines.
+-- Assumes nothing.
+use mathlib.Core.Bool.{Bool, _&&_, cond, false, not, true}
+use mathlib.Core.List.{List}
 use mathlib.Core.Logic.{⊎-elim}
 use mathlib.Core.Path.{_∙_, _≡_, ap, ap₂, refl, sym}
 use Prim.Native.Nat.{_+_, _<_, ℕ}
@@ -21,12 +23,14 @@ use Rattle.wellformed.proofs.LinksLaws.{live-high, live-low, live-inside}
 use Rattle.books.specs.Bookkeeping.{Books, booksOf, broughtOf}
 use Rattle.books.proofs.CarriedLaws.{books-lateral, brought-dead}
 use Rattle.balance.specs.Balance.{balanceIn, flowsOf, throughOf}
+use Rattle.balance.proofs.SameLaws.{SameBooks, SameCases, balance-same, books-same}
+use Rattle.zone.specs.declared.lines.Lines.{Lines}
 use Rattle.zone.specs.Accounts.{crossed}
 use Rattle.zone.specs.Exchange.{atEdge, changes, convertedAt, edgeOf, edgesOf, inflowOf, outflowOf}
-use Rattle.zone.specs.Holdings.{ownIn, settledOf}
+use Rattle.zone.specs.Holdings.{nothing, ownIn, settledOf}
 use Rattle.zone.specs.Table.{linesBy, linesOf, termsOf, totalsOf}
 use Rattle.zone.specs.Zones.{differ, inZone}
-use Rattle.zone.proofs.TermLaws.{no-gain}
+use Rattle.zone.proofs.TermLaws.{converted-is, no-gain, settled-same}
 
 -- ---- one link
 
@@ -196,22 +200,81 @@ module _ (c : Case) (counted : Counted (c .grid)) (fluid : ℕ) where
     unfolding inZone
     settled-alike i l = rw (alike i l)
 
+-- ---- rows to which every block gives the same
+
+-- what a block gives to the lines is told by its own terms, its links at the edge, what is converted there and how its balance is settled
+terms-same : (g : Grid) (s t : List ℤ) (F F′ : Books) (z w : ℕ → Bool) (i : ℕ) → ownIn s F z i ≡ ownIn t F′ w i → ((d : ℕ) → d < 3 → edgeOf g F z d i ≡ edgeOf g F′ w d i) → convertedAt g F z i ≡ convertedAt g F′ w i
+    → settledOf (inZone s z i) (F .fixed i) (balanceIn g F i) ≡ settledOf (inZone t w i) (F′ .fixed i) (balanceIn g F′ i) → termsOf g s F z i ≡ termsOf g t F′ w i
+unfolding termsOf edgesOf
+terms-same g s t F F′ z w i own edge converted settled =
+    λ k. record {
+      storage = own k .storage;
+      «edge_in» = sum-same 3 _ _ (λ d h. ap inflowOf (edge d h)) k;
+      «edge_out» = sum-same 3 _ _ (λ d h. ap outflowOf (edge d h)) k;
+      converted = converted k;
+      wells = negℤ (own k .pumped);
+      recharge = own k .recharge;
+      boundary = own k .boundary;
+      supply = settled k .supply;
+      error = settled k .error;
+    }
+
+-- sums of the same are the same, line by line
+totals-same : (n : ℕ) (f g : ℕ → Lines) → ((i : ℕ) → i < n → f i ≡ g i) → totalsOf n f ≡ totalsOf n g
+unfolding totalsOf
+totals-same n f g same =
+    λ k. record {
+      storage = sum-same n _ _ (λ i l. ap (λ r. r .storage) (same i l)) k;
+      «edge_in» = sum-same n _ _ (λ i l. ap (λ r. r .«edge_in») (same i l)) k;
+      «edge_out» = sum-same n _ _ (λ i l. ap (λ r. r .«edge_out») (same i l)) k;
+      converted = sum-same n _ _ (λ i l. ap (λ r. r .converted) (same i l)) k;
+      wells = sum-same n _ _ (λ i l. ap (λ r. r .wells) (same i l)) k;
+      recharge = sum-same n _ _ (λ i l. ap (λ r. r .recharge) (same i l)) k;
+      boundary = sum-same n _ _ (λ i l. ap (λ r. r .boundary) (same i l)) k;
+      supply = sum-same n _ _ (λ i l. ap (λ r. r .supply) (same i l)) k;
+      error = sum-same n _ _ (λ i l. ap (λ r. r .error) (same i l)) k;
+    }
+
 -- A row depends on the marks of the grid's blocks alone: a link that leads outside brings nothing.
 pub lines-same : (c : Case) → Counted (c .grid) → (z w : ℕ → Bool) → ((i : ℕ) → i < blocksOf (c .grid) → z i ≡ w i) → (fluid : ℕ) → linesOf c z fluid ≡ linesOf c w fluid
-unfolding linesBy totalsOf termsOf edgesOf
+unfolding linesBy
 lines-same c counted z w alike fluid =
-    let n = blocksOf (c .grid) in
-    let own = own-same c counted fluid z w alike in
-    let edge = edge-same c counted fluid z w alike in
-    let settled = settled-alike c counted fluid z w alike in
-    λ k. record {
-      storage = sum-same n _ _ (λ i l. ap (λ o. o .storage) (own i l)) k;
-      «edge_in» = sum-same n _ _ (λ i l. sum-same 3 _ _ (λ d h. ap inflowOf (edge d i l))) k;
-      «edge_out» = sum-same n _ _ (λ i l. sum-same 3 _ _ (λ d h. ap outflowOf (edge d i l))) k;
-      converted = sum-same n _ _ (converted-same c counted fluid z w alike) k;
-      wells = sum-same n _ _ (λ i l. ap (λ o. negℤ (o .pumped)) (own i l)) k;
-      recharge = sum-same n _ _ (λ i l. ap (λ o. o .recharge) (own i l)) k;
-      boundary = sum-same n _ _ (λ i l. ap (λ o. o .boundary) (own i l)) k;
-      supply = sum-same n _ _ (λ i l. ap (λ r. r .supply) (settled i l)) k;
-      error = sum-same n _ _ (λ i l. ap (λ r. r .error) (settled i l)) k;
-    }
+    let F = booksOf c fluid in
+    totals-same (blocksOf (c .grid)) _ _
+    (λ i l.
+    terms-same (c .grid) (c .slots) (c .slots) F F z w i (own-same c counted fluid z w alike i l) (λ d h. edge-same c counted fluid z w alike d i l) (converted-same c counted fluid z w alike i l)
+    (settled-alike c counted fluid z w alike i l))
+
+-- The same books give a zone the same row.
+pub lines-by-same : {g : Grid} {s t : List ℤ} {F F′ : Books} → SameBooks g s t F F′ → (z : ℕ → Bool) → linesBy g s F z ≡ linesBy g t F′ z
+unfolding linesBy inZone ownIn edgeOf
+lines-by-same {g} {s} {t} {F} {F′} same z = totals-same (blocksOf g) _ _ (λ i l. terms-same g s t F F′ z z i (own i l) (λ d h. ap (only (atEdge g z d i)) (same .brought (z i) d i h l)) (converted i l) (settled i l))
+  where
+    -- the zone's blocks are the same, and active in both
+    zone : (i : ℕ) → i < blocksOf g → inZone s z i ≡ inZone t z i
+    zone i l = ap (λ (a : Bool). z i && a) (same .active i l)
+
+    active : (i : ℕ) → T (inZone s z i) → T (activeOf s i)
+    active i t = both (z i) (activeOf s i) t .1
+
+    own : (i : ℕ) → i < blocksOf g → ownIn s F z i ≡ ownIn t F′ z i
+    own i l = go (inZone s z i) (λ m. same .own i l (active i m)) ∙ ap (λ (m : Bool). cond m (F′ .own i) nothing) (zone i l)
+      where
+        go : (m : Bool) → (T m → F .own i ≡ F′ .own i) → cond m (F .own i) nothing ≡ cond m (F′ .own i) nothing
+        go true h = h tt
+        go false h = refl
+
+    converted : (i : ℕ) → i < blocksOf g → convertedAt g F z i ≡ convertedAt g F′ z i
+    converted i l =
+        converted-is g F z i
+        ∙ ap₂ (λ x y. only (z i && z (i + strideOf g above)) (x +ℤ y)) (same .brought true above i (omega arith) l) (same .brought false above i (omega arith) l)
+        ∙ sym (converted-is g F′ z i)
+
+    settled : (i : ℕ) → i < blocksOf g → settledOf (inZone s z i) (F .fixed i) (balanceIn g F i) ≡ settledOf (inZone t z i) (F′ .fixed i) (balanceIn g F′ i)
+    settled i l =
+        settled-same (inZone s z i) (λ m. same .fixed i l (active i m)) (λ m. balance-same same i l (active i m))
+        ∙ ap (λ (m : Bool). settledOf m (F′ .fixed i) (balanceIn g F′ i)) (zone i l)
+
+-- And so do two cases of one record that have the same books.
+pub lines-of-same : {c e : Case} {fluid : ℕ} → Counted (c .grid) → c .grid ≡ e .grid → SameCases c e fluid → (z : ℕ → Bool) → linesOf c z fluid ≡ linesOf e z fluid
+lines-of-same {c} {e} {fluid} counted grid same z = lines-by-same (books-same counted same) z ∙ ap (λ g. linesBy g (e .slots) (booksOf e fluid) z) grid

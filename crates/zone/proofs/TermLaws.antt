@@ -11,7 +11,8 @@ use Rattle.whole.specs.Sum.{only, sum}
 use Rattle.whole.specs.Whole.{Abs, In}
 use Rattle.whole.proofs.RangeLaws.{leaf, ranges, within}
 use Rattle.whole.proofs.SearchLaws.{both, holds, true-is}
-use Rattle.whole.proofs.SumLaws.{only-abs, only-zero, sum-in}
+use Rattle.whole.proofs.SumLaws.{only-abs, only-and, only-zero, sum-in}
+use Rattle.grid.specs.declared.Grid.{Grid}
 use Rattle.grid.specs.Place.{blocksOf, nextOf, strideOf}
 use Rattle.grid.specs.Units.{above}
 use Rattle.slots.specs.Units.{mostPumpage}
@@ -101,6 +102,13 @@ changed-is F i = go (differ (F .lowIs above i) (F .highIs above i)) (no-gain (F 
     go true h = refl
     go false h = sym (h tt)
 
+-- so that converted is what a pair gains, whether its water changes fluid or not, if both its blocks are marked
+pub converted-is : (g : Grid) (F : Books) (z : ℕ → Bool) (i : ℕ) → convertedAt g F z i ≡ only (z i && z (i + strideOf g above)) (broughtOf F true above i +ℤ broughtOf F false above i)
+unfolding convertedAt
+converted-is g F z i =
+    let marked : Bool = z i && z (i + strideOf g above) in
+    sym (only-and marked (changes F i) (broughtOf F true above i +ℤ broughtOf F false above i)) ∙ ap (only marked) (changed-is F i)
+
 module _ (c : Case) (fluid : ℕ) (z : ℕ → Bool) (i : ℕ) where
   pub converted-marked : z i ≡ true → z (i + strideOf (c .grid) above) ≡ true → convertedAt (c .grid) (booksOf c fluid) z i ≡ broughtOf (booksOf c fluid) true above i +ℤ broughtOf (booksOf c fluid) false above i
   unfolding convertedAt
@@ -172,16 +180,16 @@ module _ (c : Case) (formed : WellFormed c) (fluid : ℕ) (z : ℕ → Bool) (i 
         error = rest-in .1;
       }
 
--- the balance counts in a zone alone
-pub settled-same : (marked fixed : Bool) (a b : ℤ) → (T marked → a ≡ b) → settledOf marked fixed a ≡ settledOf marked fixed b
+-- the balance, and whether the head is fixed, count in a zone alone
+pub settled-same : (marked : Bool) {p q : Bool} {a b : ℤ} → (T marked → p ≡ q) → (T marked → a ≡ b) → settledOf marked p a ≡ settledOf marked q b
 unfolding settledOf
-settled-same true fixed a b h = λ k. record { supply = only fixed (negℤ (h tt k)); error = only (not fixed) (h tt k) }
-settled-same false fixed a b h = refl
+settled-same true f h = λ k. record { supply = only (f tt k) (negℤ (h tt k)); error = only (not (f tt k)) (h tt k) }
+settled-same false f h = refl
 
 -- and is read from a row of balances
 pub settled-read : (c : Case) (row : List ℤ) → Row (blocksOf (c .grid)) (balancesOf c) row → (fluid : ℕ) → fluid < 2 → (z : ℕ → Bool) (i : ℕ) → i < blocksOf (c .grid)
     → settledOf (inZone (c .slots) z i) (fixedOf (blockIn c i) fluid) (inFluid (pairOf row i) fluid) ≡ settledOf (inZone (c .slots) z i) (booksOf c fluid .fixed i) (balanceIn (c .grid) (booksOf c fluid) i)
 unfolding booksOf
 settled-read c row filled fluid h z i l =
-    settled-same (inZone (c .slots) z i) (fixedOf (blockIn c i) fluid) (inFluid (pairOf row i) fluid) (balanceIn (c .grid) (booksOf c fluid) i)
+    settled-same (inZone (c .slots) z i) (λ t. refl)
     (λ t. rw (filled .each i l) (balance-in-fluid c fluid i h ∙ balance-active c fluid i (zone-active (c .slots) z i (true-is t))))

@@ -57,7 +57,13 @@ linesBy g slots F z = totalsOf (blocksOf g) (termsOf g slots F z)
 abbrev pub linesOf : Case → (ℕ → Bool) → ℕ → Lines
 linesOf c z fluid = linesBy (c .grid) (c .slots) (booksOf c fluid) z
 
--- what later parts require: a well-formed case, rows of its thicknesses and balances, and marks that reach over the grid
+-- what later parts require: a well-formed case, and rows of its thicknesses and balances,
+pub record Worked (c : Case) (waters balances : List ℤ) : Type 0 where
+  pub formed : WellFormed c
+  pub watered : Watered (c .grid) (c .slots) waters
+  pub balanced : Row (blocksOf (c .grid)) (balancesOf c) balances
+
+-- and marks that reach over the grid
 pub record Ready (c : Case) (waters balances marks : List ℤ) : Type 0 where
   pub formed : WellFormed c
   pub watered : Watered (c .grid) (c .slots) waters

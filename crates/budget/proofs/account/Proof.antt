@@ -1,5 +1,5 @@
 -- `account` meets its contract: both rows are filled with what the table reads. Assumes nothing.
-use mathlib.Core.Path.{_∙_, ap}
+use mathlib.Core.Path.{_∙_}
 use Prim.Native.Nat.{_*_, _≤_}
 use native.Mathlib.Nat.{le-refl}
 use native.Mathlib.Omega.{arith}
@@ -13,8 +13,7 @@ use Rattle.balance.specs.Balance.{balancesOf}
 use Rattle.balance.proofs.BalanceLaws.{filled-balanced}
 use Rattle.zone.specs.Zones.{markedOf}
 use Rattle.budget.specs.Answers.{eighteenOf}
-use Rattle.budget.specs.Table.{flatOf}
-use Rattle.budget.proofs.AnswersLaws.{dry-tabled, flat-table, wet-tabled}
+use Rattle.budget.proofs.AnswersLaws.{dry-tabled, wet-tabled}
 use Rattle.budget.proofs.account.Statement.{statement}
 use Rattle.budget.proofs.account.Tie as tie
 
@@ -40,10 +39,10 @@ balanced c = let s = c .before .before .before .before .before .before .before .
 
 returns-2 : tie.Need-returns-2
 returns-2 c =
-    let z = markedOf (c .before .before .before .before .before .before .before .before .before .before .before .before .before .before .args .marks .now) in
-    let lines = c .flat .ensures ∙ ap flatOf (c .before .table .ensures) ∙ flat-table (caseIn (c .before .before .before .before .before .before .before .before .before .before .before .before .before .before)) z in
-    (λ k. record { refusal = none; lines = lines k })
-    ∙ rw (← c .before .before .before .before .before .before .before .before .before .first-dry .ensures) (wet-tabled (c .before .before .before .before .before .before .before .before .before .first-dry .result) (eighteenOf (caseIn (c .before .before .before .before .before .before .before .before .before .before .before .before .before .before)) z) (omega (arith, c .before .before .before .before .before .before .before .before .if1 .left)))
+    let s = c .before .before .before .before .before .before .before .before .before .before .before .before .before in
+    let dry = c .before .before .before .before .before .before .before .before .first-dry in
+    (λ k. record { refusal = none; lines = c .table-on .ensures k })
+    ∙ rw (← dry .ensures) (wet-tabled (dry .result) (eighteenOf (caseIn s) (markedOf (s .args .marks .now))) (omega (arith, c .before .before .before .before .before .before .before .if1 .left)))
 
 pub account-spec : {M : Type 1} → statement M
 account-spec =
@@ -61,5 +60,4 @@ account-spec =
     (λ c. search needs)
     (λ c. search needs)
     (λ c κs. record { formed = c .before .before .before .before .before .before .before .before .before .before .before .before .pre .0; watered = watered (c .before .before .before .before .before .before .before .before .before .before); balanced = balanced (c .before .before .before); reach = c .before .before .before .before .before .before .before .before .before .before .before .before .pre .1 })
-    (λ c κs. search needs)
     returns-2)

@@ -1,8 +1,9 @@
 -- `layer_table` meets its contract: the blocks of the layer are marked. Assumes nothing.
+use mathlib.Core.List.{List}
 use mathlib.Core.Path.{_∙_, _≡_, ap}
-use Prim.Native.Nat.{_<_, _≤_, ℕ}
+use Prim.Native.Nat.{_≤_}
 use native.Mathlib.Omega.{arith}
-use lib.IntN.{pos}
+use lib.IntN.{pos, ℤ}
 use lib.ListN.{length, replicate}
 use borrow.Author.Needs.{needs}
 use Rattle.grid.specs.Place.{blocksOf}
@@ -10,8 +11,9 @@ use Rattle.slices.specs.Slices.{Case, caseOf, firstRefusal}
 use Rattle.wellformed.specs.Limits.{WellFormed, checksOf}
 use Rattle.wellformed.proofs.LimitsLaws.{checked-stands}
 use Rattle.zone.specs.Zones.{markedOf}
-use Rattle.budget.specs.Answers.{eighteenOf, layerAnswer, layerZone, tabled, wellChecks}
-use Rattle.budget.proofs.AnswersLaws.{eighteen-same, marks-marked, tabled-goes-on, tabled-stays}
+use Rattle.books.specs.Waters.{wellChecks}
+use Rattle.budget.specs.Answers.{eighteenOf, layerAnswer, layerZone, tabled}
+use Rattle.budget.proofs.AnswersLaws.{layer-marked, tabled-goes-on, tabled-stays}
 use Rattle.budget.proofs.layer_table.Statement.{statement}
 use Rattle.budget.proofs.layer_table.Tie as tie
 
@@ -35,18 +37,15 @@ account-requires c κs =
     let long : length (c .before .before .fill-layer-marks .last .1 .1 .0) ≡ 512 = c .before .before .fill-layer-marks .kept .1 .1 .0 in
     (formed (c .before .before .before .before), omega (arith, room (c .before .before .before .before), long))
 
--- the marks as they stand
-marked : (c : tie.After-fill-layer-marks) → (i : ℕ) → i < blocksOf (c .before .before .before .before .before .args .g) → markedOf (c .fill-layer-marks .last .1 .1 .0) i ≡ layerZone (c .before .before .before .before .before .args .g) (c .before .before .before .before .before .args .layer) i
-marked c i l = rw (c .fill-layer-marks .ensures) (marks-marked (blocksOf (c .before .before .before .before .before .args .g)) (layerZone (c .before .before .before .before .before .args .g) (c .before .before .before .before .before .args .layer)) (replicate 512 (pos 0)) (room (c .before .before)) i l)
-
 returns-2 : tie.Need-returns-2
 unfolding layerAnswer
 returns-2 c =
     let s = c .before .before .before .before .before .before .before .before in
-    let z = layerZone (s .args .g) (s .args .layer) in
+    let k = caseIn s in
     c .account .ensures
-    ∙ ap (tabled (firstRefusal (wellChecks (caseIn s)))) (eighteen-same (caseIn s) (formed (c .before .before .before .before .before) .judged .counted) (markedOf (c .before .before .before .fill-layer-marks .last .1 .1 .0)) z (marked (c .before .before .before)))
-    ∙ tabled-goes-on (checksOf (caseIn s)) (wellChecks (caseIn s)) (c .before .before .before .before .before .before .before .check-slices .result) (eighteenOf (caseIn s) z) (c .before .before .before .before .before .before .before .check-slices .ensures) (c .before .before .before .before .before .if1 .left)
+    ∙ ap (λ (marks : List ℤ). tabled (firstRefusal (wellChecks k)) (eighteenOf k (markedOf marks))) (c .before .before .before .fill-layer-marks .ensures)
+    ∙ ap (tabled (firstRefusal (wellChecks k))) (layer-marked k (formed (c .before .before .before .before .before) .judged .counted) (s .args .layer) (replicate 512 (pos 0)) (room (c .before .before .before .before .before)))
+    ∙ tabled-goes-on (checksOf k) (wellChecks k) (c .before .before .before .before .before .before .before .check-slices .result) (eighteenOf k (layerZone (s .args .g) (s .args .layer))) (c .before .before .before .before .before .before .before .check-slices .ensures) (c .before .before .before .before .before .if1 .left)
 
 pub layer-table-spec : {M : Type 1} → statement M
 layer-table-spec =

@@ -1,15 +1,13 @@
 -- `whole_table` meets its contract: every block is marked. Assumes nothing.
 use mathlib.Core.Path.{_∙_, ap}
 use native.Mathlib.Omega.{arith}
-use lib.IntN.{pos}
-use lib.ListN.{replicate}
 use borrow.Author.Needs.{needs}
 use Rattle.slices.specs.Slices.{Case, caseOf, firstRefusal}
 use Rattle.wellformed.specs.Limits.{WellFormed, checksOf}
 use Rattle.wellformed.proofs.LimitsLaws.{checked-stands}
-use Rattle.zone.specs.Zones.{markedOf}
-use Rattle.budget.specs.Answers.{eighteenOf, everywhere, tabled, wellChecks, wholeAnswer}
-use Rattle.budget.proofs.AnswersLaws.{eighteen-same, ones-marked, tabled-goes-on, tabled-stays}
+use Rattle.books.specs.Waters.{wellChecks}
+use Rattle.budget.specs.Answers.{eighteenOf, everywhere, tabled, wholeAnswer}
+use Rattle.budget.proofs.AnswersLaws.{tabled-goes-on, tabled-stays, whole-marked}
 use Rattle.budget.proofs.whole_table.Statement.{statement}
 use Rattle.budget.proofs.whole_table.Tie as tie
 
@@ -29,9 +27,8 @@ returns-2 : tie.Need-returns-2
 unfolding wholeAnswer
 returns-2 c =
     let k = caseIn (c .before .before .before .before .before) in
-    let counted = formed (c .before .before) .judged .counted in
     c .account .ensures
-    ∙ ap (tabled (firstRefusal (wellChecks k))) (eighteen-same k counted (markedOf (replicate 512 (pos 1))) everywhere (λ i l. ones-marked i (omega (arith, l, counted .blocks-most))))
+    ∙ ap (tabled (firstRefusal (wellChecks k))) (whole-marked k (formed (c .before .before) .judged .counted))
     ∙ tabled-goes-on (checksOf (caseIn (c .before .before .before .before .before))) (wellChecks k) (c .before .before .before .before .check-slices .result) (eighteenOf k everywhere) (c .before .before .before .before .check-slices .ensures) (c .before .before .if1 .left)
 
 pub whole-table-spec : {M : Type 1} → statement M

@@ -9,10 +9,10 @@ use borrow.Author.Needs.{needs}
 use Rattle.whole.specs.Lent.{over}
 use Rattle.grid.specs.Place.{blocksOf}
 use Rattle.slices.specs.Slices.{Case, Judged, caseOf}
-use Rattle.casefile.specs.declared.fields.Part.the-variants.{Widths}
-use Rattle.casefile.specs.declared.runs.Run.the-variants.{Done}
+use Rattle.fields.specs.declared.Part.the-variants.{Widths}
+use Rattle.fields.specs.declared.runs.Run.the-variants.{Done}
+use Rattle.fields.specs.Runs.{blocksFrom, endingOf, fillOf}
 use Rattle.casefile.specs.Reading.{bodyOf, caseFrom, rowsFrom, storedOf, slotsFrom}
-use Rattle.casefile.specs.Runs.{blocksFrom, endingOf, fillOf}
 use Rattle.casefile.proofs.ReadingLaws.{body-case, body-done, case-judged, judging-goes-on, judging-stays}
 use Rattle.casefile.proofs.read_body.Statement.{statement}
 use Rattle.casefile.proofs.read_body.Tie as tie

@@ -5,24 +5,25 @@ use native.Mathlib.Omega.{arith}
 use lib.IntN.{pos}
 use lib.ListN.{replicate}
 use borrow.Author.Needs.{needs}
+use Rattle.grid.specs.Record.{counts}
 use Rattle.slices.specs.Slices.{Case, caseOf, firstRefusal, shapeOf}
 use Rattle.slices.proofs.SlicesLaws.{shape-stands}
-use Rattle.casefile.specs.declared.fields.Part.the-variants.{Counts}
-use Rattle.casefile.specs.declared.runs.Run.the-variants.{Done}
-use Rattle.casefile.specs.Fields.{Within}
+use Rattle.fields.specs.declared.Part.the-variants.{Counts}
+use Rattle.fields.specs.declared.runs.Run.the-variants.{Done}
+use Rattle.fields.specs.Fields.{Within}
+use Rattle.fields.specs.Runs.{fillOf}
+use Rattle.fields.proofs.FilledLaws.{counts-sent, fill-of-whole, fill-within}
 use Rattle.casefile.specs.Reading.{countedOf, judging, readingOf, afterCounts}
-use Rattle.casefile.specs.Runs.{fillOf}
-use Rattle.casefile.proofs.FilledLaws.{fill-within}
-use Rattle.casefile.proofs.ReadingLaws.{counts-done, counts-refused, counts-sent, fill-of-whole, judging-goes-on, judging-stays}
+use Rattle.casefile.proofs.ReadingLaws.{counts-done, counts-refused, judging-goes-on, judging-stays}
 use Rattle.casefile.proofs.read_case.Statement.{statement}
 use Rattle.casefile.proofs.read_case.Tie as tie
 
 -- what the run over the counts left, where it is done
-left : (c : tie.After-fill) (next : ℕ) → c .fill .result ≡ Done next → c .fill .last .1 .1 .1 .1 .0 ≡ fillOf (Done 0) Counts (c .before .before .before .args .file .now) 3 .values
-left c next e = c .fill .ensures .1 ∙ fill-of-whole (Done 0) Counts (c .before .before .before .args .file .now) 3 next (replicate 3 (pos 0)) refl (sym (c .fill .ensures .0) ∙ e)
+left : (c : tie.After-fill) (next : ℕ) → c .fill .result ≡ Done next → c .fill .last .1 .1 .1 .1 .0 ≡ fillOf (Done 0) Counts (c .before .before .before .args .file .now) counts .values
+left c next e = c .fill .ensures .1 ∙ fill-of-whole (Done 0) Counts (c .before .before .before .args .file .now) counts next (replicate counts (pos 0)) refl (sym (c .fill .ensures .0) ∙ e)
 
 -- the record with them
-record-read : (c : tie.After-counted) → c .counted .result ≡ countedOf (fillOf (Done 0) Counts (c .before .before .before .before .before .before .before .before .before .args .file .now) 3 .values)
+record-read : (c : tie.After-counted) → c .counted .result ≡ countedOf (fillOf (Done 0) Counts (c .before .before .before .before .before .before .before .before .before .args .file .now) counts .values)
 record-read c = c .counted .ensures ∙ ap countedOf (left (c .before .before .before .before .before .before) (c .before .before .before .next .given .0 .0) (c .before .before .before .next .given .1))
 
 -- the whole, by the record with them
@@ -38,7 +39,7 @@ counted-requires : tie.Need-counted-requires
 counted-requires c κs =
     let next = c .before .before .next .given in
     let kept = c .before .before .before .before .before .fill .kept .1 .1 .1 .1 .0 in
-    (omega (arith, kept), subst (Within Counts 3) (sym (left (c .before .before .before .before .before) (next .0 .0) (next .1))) (fill-within Counts counts-sent (c .before .before .before .before .before .before .before .before .args .file .now) (Done 0) 3 (next .0 .0) (sym (c .before .before .before .before .before .fill .ensures .0) ∙ next .1)))
+    (omega (arith, kept), subst (Within Counts counts) (sym (left (c .before .before .before .before .before) (next .0 .0) (next .1))) (fill-within Counts counts-sent (c .before .before .before .before .before .before .before .before .args .file .now) (Done 0) counts (next .0 .0) (sym (c .before .before .before .before .before .fill .ensures .0) ∙ next .1)))
 
 returns : tie.Need-returns
 returns c =

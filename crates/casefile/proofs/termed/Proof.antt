@@ -4,31 +4,28 @@ use lib.IntN.{natAbs, pos}
 use lib.ListN.{getD}
 use borrow.Author.Needs.{needs}
 use Rattle.whole.proofs.RangeLaws.{leaf, no-less, read-back, unsign-ok}
-use Rattle.casefile.specs.declared.fields.Part.the-variants.{Terms}
-use Rattle.casefile.specs.Fields.{endsOf, recordRange}
+use Rattle.grid.specs.Record.{recordOf, terms}
+use Rattle.fields.specs.declared.Part.the-variants.{Terms}
+use Rattle.fields.specs.Fields.{endsOf, recordRange}
+use Rattle.fields.proofs.FilledLaws.{number-in}
 use Rattle.casefile.specs.Reading.{termedOf}
-use Rattle.casefile.proofs.ReadingLaws.{number-in}
 use Rattle.casefile.proofs.termed.Statement.{statement}
 use Rattle.casefile.proofs.termed.Tie as tie
 
 cast-flag : tie.Need-cast-t7
 unfolding endsOf recordRange
-cast-flag c = let h = number-in Terms 4 (c .before .before .args .terms .now) (c .before .before .pre .1) 1 (omega arith) in unsign-ok (no-less (leaf h) tt) (record { sfits = c .t6 .given })
+cast-flag c = let h = number-in Terms terms (c .before .before .args .values .now) (c .before .before .pre .1) 1 (omega arith) in unsign-ok (no-less (leaf h) tt) (record { sfits = c .t6 .given })
 
 returns : tie.Need-returns
 unfolding termedOf
 returns c =
     let g = c .before .before .before .before .args .g in
-    let v = c .before .before .before .before .args .terms .now in
-    λ i. record {
-      columns = g .columns;
-      rows = g .rows;
-      layers = g .layers;
-      delta = read-back (getD v 0 (pos 0)) (c .before .before .before .t4 .given) i;
-      flag = natAbs (read-back (getD v 1 (pos 0)) (c .before .before .t6 .given) i);
-      step = read-back (getD v 2 (pos 0)) (c .before .t9 .given) i;
-      tolerance = read-back (getD v 3 (pos 0)) (c .t11 .given) i;
-    }
+    let v = c .before .before .before .before .args .values .now in
+    λ i. recordOf (g .columns) (g .rows) (g .layers)
+    (read-back (getD v 0 (pos 0)) (c .before .before .before .t4 .given) i)
+    (natAbs (read-back (getD v 1 (pos 0)) (c .before .before .t6 .given) i))
+    (read-back (getD v 2 (pos 0)) (c .before .t9 .given) i)
+    (read-back (getD v 3 (pos 0)) (c .t11 .given) i)
 
 pub termed-spec : {M : Type 1} → statement M
 termed-spec =

@@ -6,16 +6,17 @@ use borrow.Author.Tests.{lt-leb}
 use Rattle.whole.specs.Lent.{over}
 use Rattle.grid.specs.Judging.{Termed}
 use Rattle.grid.specs.Place.{Counted}
+use Rattle.grid.specs.Record.{recordNumbers}
 use Rattle.casefile.specs.Reading.{Read}
 use Rattle.casefile.specs.declared.Answer.{Answer}
-use Rattle.client.proofs.CrossingLaws.{read-in-range, read-roomy}
-use Rattle.client.specs.Crossing.{handed, numbersOfGrid, readHanded, recordLeft}
+use Rattle.crossing.proofs.CrossingLaws.{read-in-range, read-roomy}
+use Rattle.crossing.specs.Crossing.{handed, numbersOfGrid, readHanded, recordLeft}
 use Rattle.client.proofs.caydubeesh_read.Statement.{statement}
 use Rattle.client.proofs.caydubeesh_read.Tie as tie
 
 returns : tie.Need-returns
 unfolding recordLeft readHanded
-returns c = rw (lt-leb 7 (length (c .before .before .args .«record» .now)) (c .if1 .taken)) (refl, (refl, (refl, (refl, (refl, refl)))))
+returns c = rw (lt-leb recordNumbers (length (c .before .before .args .«record» .now)) (c .if1 .taken)) (refl, (refl, (refl, (refl, (refl, refl)))))
 
 hand-grid-requires : tie.Need-hand-grid-requires
 hand-grid-requires c κs =

@@ -4,8 +4,8 @@ use lib.ListN.{length}
 use borrow.Author.Needs.{needs}
 use Rattle.whole.specs.Lent.{over}
 use Rattle.report.specs.declared.Answer.{Answer}
-use Rattle.client.proofs.CrossingLaws.{report-room}
-use Rattle.client.specs.Crossing.{doublesOf, handed, reportLeft}
+use Rattle.crossing.proofs.CrossingLaws.{report-room}
+use Rattle.crossing.specs.Crossing.{doublesOf, handed, reportLeft}
 use Rattle.client.proofs.caydubeesh_report.Statement.{statement}
 use Rattle.client.proofs.caydubeesh_report.Tie as tie
 

@@ -5,8 +5,8 @@ use lib.ListN.{length}
 use borrow.Author.Needs.{needs}
 use Rattle.whole.specs.Lent.{over}
 use Rattle.budget.specs.declared.Answer.{Answer}
-use Rattle.client.proofs.CrossingLaws.{table-room}
-use Rattle.client.specs.Crossing.{handed, tableLeft}
+use Rattle.crossing.proofs.CrossingLaws.{table-room}
+use Rattle.crossing.specs.Crossing.{handed, tableLeft}
 use Rattle.client.proofs.caydubeesh_zone_table.Statement.{statement}
 use Rattle.client.proofs.caydubeesh_zone_table.Tie as tie
 

@@ -1,28 +1,15 @@
--- `check_slices` meets its contract: the first of two runs of refusals. Assumes nothing.
-use mathlib.Core.List.{_++_}
+-- `check_slices` meets its contract: nothing is lent but the case itself. Assumes nothing.
+use mathlib.Core.Path.{_∙_}
 use borrow.Author.Needs.{needs}
-use Rattle.slices.specs.Slices.{caseOf, contentsOf, shapeOf}
-use Rattle.slices.proofs.SlicesLaws.{first-goes-on, first-stays, judged-stands}
-use Rattle.wellformed.specs.Limits.{limitsOf}
+use Rattle.slices.specs.Slices.{caseOf}
+use Rattle.wellformed.proofs.LimitsLaws.{lent-reaches}
 use Rattle.wellformed.proofs.check_slices.Statement.{statement}
 use Rattle.wellformed.proofs.check_slices.Tie as tie
 
 returns : tie.Need-returns
 returns c =
-    let s = c .before .before .before .args in
-    let k = caseOf (s .g) (s .columns .now) (s .rows .now) (s .slots .now) in
-    first-stays (shapeOf k ++ contentsOf k) (limitsOf k) (c .before .before .judge-ranges .result) (c .before .before .judge-ranges .ensures) (c .if1 .taken)
-
-judge-limits-requires : tie.Need-judge-limits-requires
-judge-limits-requires c κs =
-    let s = c .before .before .before .args in
-    judged-stands (caseOf (s .g) (s .columns .now) (s .rows .now) (s .slots .now)) (rw (c .before .before .judge-ranges .ensures) at (c .if1 .left))
-
-returns-2 : tie.Need-returns-2
-returns-2 c =
-    let s = c .before .before .before .before .args in
-    let k = caseOf (s .g) (s .columns .now) (s .rows .now) (s .slots .now) in
-    first-goes-on (shapeOf k ++ contentsOf k) (limitsOf k) (c .before .before .before .judge-ranges .result) (c .before .before .before .judge-ranges .ensures) (c .judge-limits .result) (c .before .if1 .left) (c .judge-limits .ensures)
+    let s = c .before .args in
+    c .check-lent .ensures ∙ lent-reaches (caseOf (s .g) (s .columns .now) (s .rows .now) (s .slots .now))
 
 pub check-slices-spec : {M : Type 1} → statement M
-check-slices-spec = tie.close (tie.spec (λ c κs. search needs) returns judge-limits-requires returns-2)
+check-slices-spec = tie.close (tie.spec (λ c κs. search needs) returns)

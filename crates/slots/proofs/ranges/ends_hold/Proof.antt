@@ -1,5 +1,5 @@
 -- `ends_hold` meets its contract. The invariant: every slot passed lies within its ends. Assumes nothing.
-use mathlib.Core.Path.{_≡_, sym, ap₂, _∙_}
+use mathlib.Core.Path.{_≡_, refl, sym, ap₂, _∙_}
 use mathlib.Core.Bool.{Bool, true}
 use mathlib.Core.List.{List}
 use Prim.Native.Nat.{ℕ, _-_, _≤_}
@@ -19,17 +19,18 @@ abbrev within : List ℤ → ℕ → Bool
 within part slot = inRange (rangeOf slot) (getD part slot (pos 0))
 
 abbrev Inv-loop : tie.InvT-loop
-Inv-loop part slot₀ slot = (slot ≤ 16) × (every slot (within part) ≡ true)
+Inv-loop part table slot₀ slot = (slot ≤ 16) × (every slot (within part) ≡ true)
 
 abbrev μ-loop : tie.MeasureT-loop
-μ-loop part slot₀ slot = 16 - slot
+μ-loop part table slot₀ slot = 16 - slot
 
 loop-holds : tie.Need-loop-holds Inv-loop μ-loop
 loop-holds c = (omega arith, every-start (within (c .args .part .now)))
 
 -- what the call tells of the slot
 told : (c : tie.After-in-range Inv-loop μ-loop) → within (c .before .before .before .before .before .args .part .now) (c .before .before .before .before .loop .slot) ≡ c .in-range .result
-told c = sym (c .in-range .ensures ∙ ap₂ inRange (c .before .range-of .ensures) (read-back (getD (c .before .before .before .before .before .args .part .now) (c .before .before .before .before .loop .slot) (pos 0)) (c .before .before .value .given)))
+unfolding rangeOf
+told c = sym (c .in-range .ensures ∙ ap₂ inRange refl (read-back (getD (c .before .before .before .before .before .args .part .now) (c .before .before .before .before .loop .slot) (pos 0)) (c .before .before .value .given)))
 
 returns : tie.Need-returns Inv-loop μ-loop
 unfolding endsHold
@@ -58,7 +59,8 @@ ends-hold-spec =
     loop-holds
     (λ c. omega arith)
     (λ c. omega arith)
-    (λ c κs. tt)
+    (λ c. omega arith)
+    (λ c. omega arith)
     (λ c κs. tt)
     returns
     (λ c. omega arith)

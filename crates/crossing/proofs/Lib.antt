@@ -1,0 +1,3 @@
+-- The laws of `crossing`, for the crate above.
+pub mod CrossingLaws
+pub mod OutcomeTheorems

@@ -1,0 +1,2 @@
+-- The definitions of `crossing`, for the crate above.
+pub mod Crossing

@@ -1,0 +1,3 @@
+-- The definitions of `fields`, for the crates above.
+pub mod Fields
+pub mod Runs
