@@ -8,7 +8,7 @@ use lib.Dec.{T, eqb, leb, leb→le, ltb}
 use lib.Ieee.{Float}
 use lib.IntN.{ℤ}
 use lib.ListN.{length, set}
-use borrow.Author.Tests.{eqb-true, le-leb, leb-true, lt-leb}
+use borrow.Author.Tests.{eq-eqb, eqb-true, le-leb, leb-true, lt-leb, ne-eqb}
 use Rattle.whole.specs.Lent.{over}
 use Rattle.whole.specs.Sum.{count}
 use Rattle.whole.proofs.SearchLaws.{both, cond-both, first-most}
@@ -48,9 +48,9 @@ module _ (row columns rows slots : List ℤ) where
     check-long h = rw (le-leb recordNumbers (length row) h) refl
 
     -- where nothing is refused, the record is there, the case is well formed, and all that is lent is long enough
-    pub check-stands : checkHanded row columns rows slots reaches .number ≡ 0 → (recordNumbers ≤ length row) × (WellFormed (caseIn row columns rows slots) × T reaches)
+    pub check-stands : {r : Refusal} → r ≡ checkHanded row columns rows slots reaches → r .number ≡ 0 → (recordNumbers ≤ length row) × (WellFormed (caseIn row columns rows slots) × T reaches)
     unfolding checkHanded
-    check-stands = go (leb recordNumbers (length row)) refl
+    check-stands {r} told e = go (leb recordNumbers (length row)) refl (rw told at e)
       where
         go : (b : Bool) → leb recordNumbers (length row) ≡ b → cond b (checkedLent (caseIn row columns rows slots) reaches) short .number ≡ 0
             → (recordNumbers ≤ length row) × (WellFormed (caseIn row columns rows slots) × T reaches)
@@ -72,7 +72,15 @@ module _ (row columns rows slots : List ℤ) where
       go true = lent-reached c (λ b. leb 18 room && b) 1 (length marks) (blocksOf (gridOf row)) (omega arith)
       go false = refl
 
--- what is answered beside nothing that was lent too short
+-- an answer is what stands beside a refusal, or what is given where nothing is refused
+module _ {A : Type 0} {q r : Refusal} (told : q ≡ r) (given : A) (beside : Refusal → A) where
+  pub handed-refused : (q .number ≡ 0 → ⊥) → beside q ≡ unlessRefused r given (beside r)
+  handed-refused h = rw (← told, ne-eqb (q .number) 0 h)
+
+  pub handed-given : q .number ≡ 0 → {x : A} → x ≡ given → x ≡ unlessRefused r given (beside r)
+  handed-given e is = rw (← told, eq-eqb (q .number) 0 e) is
+
+-- where it is no refusal, nothing was refused
 module _ {A : Type 0} (number : A → ℕ) (r : Refusal) (x y : A) (same : number y ≡ r .number) where
   passed : number (unlessRefused r x y) ≡ 0 → r .number ≡ 0
   passed = go (eqb (r .number) 0) refl
@@ -88,20 +96,20 @@ module _ (row columns rows slots : List ℤ) (room : ℕ) where
   -- what is not refused has room
   pub verdict-room : verdictHanded row columns rows slots room .refusal .number ≡ 0 → 4 ≤ room
   unfolding verdictHanded
-  verdict-room e = leb→le 4 room (check-stands row columns rows slots (leb 4 room) e .1 .1)
+  verdict-room e = leb→le 4 room (check-stands row columns rows slots (leb 4 room) refl e .1 .1)
 
   pub table-room : (marks : List ℤ) → tableHanded row columns rows slots marks room .refusal .number ≡ 0 → 18 ≤ room
   unfolding tableHanded
   table-room marks e =
       let reach = marksReach (gridOf row) marks in
       let r = checkHanded row columns rows slots (leb 18 room && reach) in
-      leb→le 18 room (both (leb 18 room) reach (check-stands row columns rows slots (leb 18 room && reach) (passed (λ a. a .refusal .number) r (zoneOfCase c marks) (refusing r) refl e) .1 .1) .0)
+      leb→le 18 room (both (leb 18 room) reach (check-stands row columns rows slots (leb 18 room && reach) refl (passed (λ a. a .refusal .number) r (zoneOfCase c marks) (refusing r) refl e) .1 .1) .0)
 
   pub report-room : (number : ℕ) → reportHanded row columns rows slots number room .refusal .number ≡ 0 → 5 ≤ room
   unfolding reportHanded
   report-room number e =
       let r = checkHanded row columns rows slots (leb 5 room) in
-      leb→le 5 room (check-stands row columns rows slots (leb 5 room) (passed (λ a. a .refusal .number) r (reportOfCase c number) (telling r noReport) refl e) .1 .1)
+      leb→le 5 room (check-stands row columns rows slots (leb 5 room) refl (passed (λ a. a .refusal .number) r (reportOfCase c number) (telling r noReport) refl e) .1 .1)
 
 -- ---- code, block and count of a verdict are small
 module _ (g : Grid) (slots : List ℤ) (β : ℕ → Fluids) (few : blocksOf g ≤ mostBlocks) where
@@ -145,7 +153,7 @@ handed-small row columns rows slots room = go (eqb (r .number) 0) refl
     r = checkHanded row columns rows slots (leb 4 room)
 
     go : (b : Bool) → eqb (r .number) 0 ≡ b → Small (cond b (verdictOf c) noVerdict)
-    go true e = verdict-small (c .grid) (c .slots) (balancesOf c) (check-stands row columns rows slots (leb 4 room) (eqb-true (r .number) 0 e) .1 .0 .judged .counted .blocks-most)
+    go true e = verdict-small (c .grid) (c .slots) (balancesOf c) (check-stands row columns rows slots (leb 4 room) refl (eqb-true (r .number) 0 e) .1 .0 .judged .counted .blocks-most)
     go false e = record { code = omega arith; block = omega arith; count = omega arith }
 
 -- ---- what was read is in range

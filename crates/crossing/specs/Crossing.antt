@@ -27,11 +27,11 @@ use Rattle.casefile.specs.Reading.{refusing as unread}
 
 -- ---- the record of a case as a row of numbers: "columns, rows, layers, δ, flag, step, tolerance"
 
--- a count, of "1..=64" or "1..=8"; below zero it is out of range, as 0 is, so that 3 refuses it
+-- a count, "1..=64 each; 1..=8"; below zero it is out of range, as 0 is, so that 3 refuses it
 abbrev pub countIn : ℤ → ℕ
 countIn z = cond (ltZ z (pos 0)) 0 (natAbs z)
 
--- the flag, "0 or 1"; below zero it is out of range, as 2 is, so that 4 refuses it
+-- the flag, "0, 1"; below zero it is out of range, as 2 is, so that 4 refuses it
 abbrev pub flagIn : ℤ → ℕ
 flagIn z = cond (ltZ z (pos 0)) 2 (natAbs z)
 

@@ -20,6 +20,7 @@ ghost use Rattle.crossing.specs.Crossing.{
   handed,
 };
 use grid::Grid;
+use grid::RECORD_NUMBERS;
 use report::Report;
 use slices::Refusal;
 use verdict::Verdict;
@@ -65,7 +66,7 @@ pub fn grid_of(record: &[i64]) -> Grid
 }
 
 // The numbers of a record. Inner: it is in range.
-fn numbers_of_grid(g: Grid) -> [i64; 7]
+fn numbers_of_grid(g: Grid) -> [i64; RECORD_NUMBERS]
     requires { ⌜ Counted g ⌝ }
     requires { ⌜ Termed g ⌝ }
     ensures { λ r. ⌜ r ≡ numbersOfGrid g ⌝ }

@@ -1,38 +1,26 @@
 -- `report_handed` meets its contract: what is refused first, then what the case is answered. Assumes nothing.
-use mathlib.Core.Path.{_∙_, _≡_, ap, sym}
-use Prim.Native.Nat.{_≤_}
-use lib.Dec.{T, leb}
+use mathlib.Core.Path.{_∙_, ap}
 use lib.Ieee.{ofBits}
-use lib.ListN.{length}
 use borrow.Author.Needs.{needs}
-use borrow.Author.Tests.{eq-eqb, ne-eqb}
-use Rattle.grid.specs.Record.{recordNumbers}
-use Rattle.slices.specs.declared.Refusal.{Refusal}
 use Rattle.slices.specs.Slices.{caseOf}
-use Rattle.wellformed.specs.Limits.{WellFormed}
-use Rattle.report.specs.Reports.{noReport, reportOfCase}
+use Rattle.report.specs.Reports.{noReport, reportOfCase, telling}
 use Rattle.crossing.specs.Crossing.{caseIn, reportHanded}
-use Rattle.crossing.proofs.CrossingLaws.{check-stands}
+use Rattle.crossing.proofs.CrossingLaws.{check-stands, handed-given, handed-refused}
 use Rattle.crossing.proofs.handed.report_handed.Statement.{statement}
 use Rattle.crossing.proofs.handed.report_handed.Tie as tie
 
 returns : tie.Need-returns
 unfolding reportHanded ofBits
 returns c =
-    let h = c .before .before .check-handed in
-    rw (ne-eqb _ 0 (λ z. c .if1 .taken (ap (λ (r : Refusal). r .number) (h .ensures) ∙ z))) (λ i. record { refusal = h .ensures i; report = noReport })
-
-stands : (c : tie.Else1) → let a = c .before .before .before .args in (recordNumbers ≤ length (a .«record» .now)) × (WellFormed (caseIn (a .«record» .now) (a .columns .now) (a .rows .now) (a .slots .now)) × T (leb 5 (a .room)))
-stands c =
     let a = c .before .before .before .args in
-    check-stands (a .«record» .now) (a .columns .now) (a .rows .now) (a .slots .now) (leb 5 (a .room)) (sym (ap (λ (r : Refusal). r .number) (c .before .before .check-handed .ensures)) ∙ c .if1 .left)
+    handed-refused (c .before .before .check-handed .ensures) (reportOfCase (caseIn (a .«record» .now) (a .columns .now) (a .rows .now) (a .slots .now)) (a .number)) (λ r. telling r noReport) (c .if1 .taken)
 
 returns-2 : tie.Need-returns-2
 unfolding reportHanded
 returns-2 c =
-    let h = c .before .before .before .before .check-handed in
     let a = c .before .before .before .before .before .args in
-    rw (eq-eqb _ 0 (sym (ap (λ (r : Refusal). r .number) (h .ensures)) ∙ c .before .before .if1 .left)) (c .report-of-case .ensures ∙ ap (λ g. reportOfCase (caseOf g (a .columns .now) (a .rows .now) (a .slots .now)) (a .number)) (c .before .grid-of .ensures))
+    handed-given (c .before .before .before .before .check-handed .ensures) (reportOfCase (caseIn (a .«record» .now) (a .columns .now) (a .rows .now) (a .slots .now)) (a .number)) (λ r. telling r noReport) (c .before .before .if1 .left)
+    (c .report-of-case .ensures ∙ ap (λ g. reportOfCase (caseOf g (a .columns .now) (a .rows .now) (a .slots .now)) (a .number)) (c .before .grid-of .ensures))
 
 pub report-handed-spec : {M : Type 1} → statement M
 report-handed-spec =
@@ -40,6 +28,6 @@ report-handed-spec =
     (tie.spec
     (λ c κs. search needs)
     returns
-    (λ c κs. stands c .0)
-    (λ c κs. rw (c .grid-of .ensures) (stands (c .before) .1 .0 .judged))
+    (λ c κs. check-stands _ _ _ _ _ (c .before .before .check-handed .ensures) (c .if1 .left) .0)
+    (λ c κs. rw (c .grid-of .ensures) (check-stands _ _ _ _ _ (c .before .before .before .check-handed .ensures) (c .before .if1 .left) .1 .0 .judged))
     returns-2)
