@@ -28,9 +28,9 @@
 #include <stdint.h>
 
 /* The version of this header; caydubeesh_version() gives that of the library that is linked. */
-#define CAYDUBEESH_VERSION "0.2.0"
+#define CAYDUBEESH_VERSION "0.3.0"
 #define CAYDUBEESH_VERSION_MAJOR 0
-#define CAYDUBEESH_VERSION_MINOR 2
+#define CAYDUBEESH_VERSION_MINOR 3
 #define CAYDUBEESH_VERSION_PATCH 0
 
 /* How many numbers a record, a verdict, a table, a report and the slots of one block have. */
@@ -97,9 +97,12 @@ enum caydubeesh_verdict_place {
     CAYDUBEESH_VERDICT_LARGEST = 3 /* the largest balance without sign among free heads, litres a day; 0 for 21, 22, or with no free place */
 };
 
-/* The codes of a verdict, in the words of caydubeesh_words. */
+/* The codes of a verdict, in the words of caydubeesh_words. caydubeesh_verdict writes 0, 21, 22, 23 or 24, and nothing beside a refusal: what stands in
+   the slice is then what stood there before the call, a verdict on another case perhaps. Look at the refusal first; or put 20 there before the call, so
+   that the code alone never says "accepted" of a case that was refused. */
 enum caydubeesh_code {
     CAYDUBEESH_CODE_ACCEPTED = 0,       /* the heads are accepted */
+    CAYDUBEESH_CODE_NOT_JUDGED = 20,    /* the case was not judged */
     CAYDUBEESH_CODE_HEAD_MOVED = 21,    /* a fixed head moved from old to new */
     CAYDUBEESH_CODE_DRY_WELL = 22,      /* a well is dry */
     CAYDUBEESH_CODE_FRESH_BALANCE = 23, /* a balance of fresh water exceeds the tolerance */
@@ -188,7 +191,7 @@ uint64_t caydubeesh_check(const int64_t *record, size_t record_length,
                           const int64_t *slots, size_t slots_length,
                           size_t *block);
 
-/* The verdict on the new heads of a case: CAYDUBEESH_VERDICT numbers, code, block, count and largest balance.
+/* The verdict on the new heads of a case: CAYDUBEESH_VERDICT numbers, code, block, count and largest balance. A refusal leaves them as they were.
 
    Refused with 7 for a short record; then as caydubeesh_check refuses, with 7 for a short verdict too, in the same place. */
 uint64_t caydubeesh_verdict(const int64_t *record, size_t record_length,

@@ -56,6 +56,8 @@ pub mod kind {
 pub mod code {
     /// The heads are accepted.
     pub const ACCEPTED: i64 = 0;
+    /// The case was not judged: what stands for a verdict beside a refusal. [`crate::verdict`] never gives it.
+    pub const NOT_JUDGED: i64 = 20;
     /// A fixed head moved from old to new.
     pub const HEAD_MOVED: i64 = 21;
     /// A well is dry.

@@ -17,7 +17,7 @@ fn written() -> BTreeMap<u64, &'static str> {
 #[test]
 fn every_number_has_its_words() {
     let written = written();
-    assert!(written.keys().copied().eq((0..=14).chain(21..=24)));
+    assert!(written.keys().copied().eq((0..=14).chain(20..=24)));
     for number in 0..100 {
         assert_eq!(words(number), *written.get(&number).unwrap_or(&"no refusal and no code has this number"));
     }
@@ -64,7 +64,7 @@ fn names_are_the_headers() {
     assert!(slots.iter().map(|(_, place)| *place).eq(0..SLOTS as i64));
     let kinds = named![kind: NONE RIVER SEA FIXED_FRESH FIXED_SALT BOTH_FIXED];
     assert_eq!(in_header("CAYDUBEESH_KIND_"), kinds);
-    let codes = named![code: ACCEPTED HEAD_MOVED DRY_WELL FRESH_BALANCE SALT_BALANCE];
+    let codes = named![code: ACCEPTED NOT_JUDGED HEAD_MOVED DRY_WELL FRESH_BALANCE SALT_BALANCE];
     assert_eq!(in_header("CAYDUBEESH_CODE_"), codes);
     let refusals = named![refused: END FORM COUNT TERM WIDTH SLOT ROOM BYTES_FOLLOW OVERLAP CONDUCTANCE MARK METRES DRY_WELL NO_BLOCK];
     assert_eq!(in_header("CAYDUBEESH_REFUSED_"), refusals);

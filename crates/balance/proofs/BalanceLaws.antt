@@ -8,24 +8,26 @@ use lib.Dec.{leb}
 use lib.IntN.{ℤ}
 use lib.ListN.{length}
 use Rattle.whole.specs.Sum.{back, only, sum}
-use Rattle.whole.specs.Whole.{Abs}
+use Rattle.whole.specs.Inner.{Abs}
 use Rattle.whole.proofs.RangeLaws.{leaf, ranges, within}
 use Rattle.whole.proofs.SumLaws.{only-abs, sum-in}
-use Rattle.grid.specs.Place.{Counted, blocksOf, previousOf, strideOf}
+use Rattle.grid.specs.Inner.{Counted}
+use Rattle.grid.specs.Place.{blocksOf, previousOf, strideOf}
 use Rattle.grid.specs.Units.{above, mostBlocks}
 use Rattle.grid.proofs.PlaceLaws.{previous-is}
 use Rattle.slices.specs.Slices.{Case}
 use Rattle.block.specs.Fluids.{fresh, inFluid, salt}
 use Rattle.block.proofs.FluidLaws.{in-fluid-in}
-use Rattle.flow.specs.Litres.{mostFlow}
-use Rattle.wellformed.specs.Limits.{WellFormed}
+use Rattle.flow.specs.Inner.{mostFlow}
+use Rattle.wellformed.specs.Inner.{WellFormed}
 use Rattle.wellformed.specs.Links.{activeOf}
 use Rattle.books.specs.Bookkeeping.{booksOf, broughtOf}
-use Rattle.books.specs.Rows.{Row, filledOf, pairOf}
+use Rattle.books.specs.Inner.{Row, filledOf, pairOf}
 use Rattle.books.proofs.CarriedLaws.{brought-in, brought-next}
 use Rattle.books.proofs.RowsLaws.{filled-row}
 use Rattle.books.proofs.OwnLaws.{own-boundary-in, own-pumped-in, own-recharge-in, own-storage-in}
-use Rattle.balance.specs.Balance.{Bounded, balanceIn, balanceOf, balancesOf, flowsOf, mostBalance, throughOf}
+use Rattle.balance.specs.Inner.{Bounded, mostBalance}
+use Rattle.balance.specs.Balance.{balanceIn, balanceOf, balancesOf, flowsOf, throughOf}
 
 -- what the link that ends in a block brings is what the link of the block before brings, if one is there
 pub ending-is : (c : Case) → Counted (c .grid) → (fluid d i : ℕ) → i < blocksOf (c .grid)

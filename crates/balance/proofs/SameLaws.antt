@@ -1,26 +1,34 @@
--- Books that agree on what links bring and on what active blocks have, and cases whose books do, have the same balances. Assumes nothing.
+-- Books that agree on what links bring and on what active blocks have, and cases whose books do, have the same balances. Cases alike in the numbers that
+-- they need are such cases. Assumes nothing.
 use mathlib.Core.Bool.{Bool, _&&_, false, true}
 use mathlib.Core.List.{List}
 use mathlib.Core.Path.{_∙_, _≡_, ap, ap₂, refl, subst, sym}
-use Prim.Native.Nat.{_%_, _*_, _+_, _-_, _/_, _<_, suc, zero, ℕ}
+use Prim.Native.Nat.{_%_, _*_, _+_, _-_, _/_, _<_, _≤_, suc, zero, ℕ}
 use native.Mathlib.Omega.{arith}
-use lib.Dec.{T, eqb, leb, ltb}
+use lib.Dec.{T, leb, ltb}
 use lib.IntN.{_+ℤ_, _-ℤ_, negℤ, ℤ}
 use Rattle.whole.specs.Sum.{back, only}
 use Rattle.whole.proofs.SearchLaws.{holds, same-test}
 use Rattle.whole.proofs.SumLaws.{only-same, sum-same}
 use Rattle.grid.specs.declared.Grid.{Grid}
-use Rattle.grid.specs.Place.{Counted, blocksOf, hasNext, nextOf, placeOf, strideOf}
+use Rattle.grid.specs.Inner.{Counted}
+use Rattle.grid.specs.Place.{blocksOf, hasNext, nextOf, placeOf, strideOf}
 use Rattle.grid.specs.Units.{above}
-use Rattle.slices.specs.Slices.{Case}
+use Rattle.grid.proofs.PlaceLaws.{behind-inside}
+use Rattle.slots.specs.Slots.{isActive}
+use Rattle.slices.specs.Slices.{Case, caseOf}
 use Rattle.block.specs.Fluids.{fresh, salt}
 use Rattle.block.proofs.FluidLaws.{both-same}
 use Rattle.wellformed.specs.Limits.{blockIn}
 use Rattle.wellformed.specs.Links.{activeOf, liveOf}
+use Rattle.wellformed.specs.Widths.{areaOf}
 use Rattle.wellformed.proofs.LinksLaws.{joined-live, live-high, live-inside, live-low, live-next}
+use Rattle.wellformed.proofs.RoomLaws.{Alike, along-same, area-same, block-in-same, face-same}
 use Rattle.books.specs.Bookkeeping.{Books, booksOf, broughtOf}
 use Rattle.books.specs.Links.{carriedOf, countsOf, lateralAt, leakageAt, namedOf}
 use Rattle.books.specs.Own.{fixedOf, ownOf}
+use Rattle.books.specs.Waters.{watersOf}
+use Rattle.books.proofs.AlikeLaws.{behind-same, carried-same, counts-same, lateral-same, leakage-same, named-same, own-same, side-same, waters-same}
 use Rattle.books.proofs.CarriedLaws.{brought-dead}
 use Rattle.balance.specs.Balance.{balanceIn, balanceOf, balancesOf, flowsOf, throughOf}
 
@@ -132,10 +140,10 @@ books-same {c} {e} {fluid} counted same =
   where
     link : (low : Bool) (d i : ℕ) → d < 3 → i < blocksOf (c .grid) → T (liveOf (c .grid) (c .slots) d i)
         → (carriedOf c fluid d i ≡ carriedOf e fluid d i) × (countsOf (c .grid) (c .slots) fluid d i low ≡ countsOf (e .grid) (e .slots) fluid d i low)
-    link low zero i h l t = (same .lateral zero i (omega arith) l t, refl)
-    link low (suc zero) i h l t = (same .lateral (suc zero) i (omega arith) l t, refl)
-    link low (suc (suc zero)) i h l t = (same .leakage i l t, ap (λ (named : ℕ). eqb named fluid) (same .named low i l t))
-    link low (suc (suc (suc d))) i h l t = absurd (omega arith)
+    link low d i h l t = (carried-same c e fluid d i (λ b. same .lateral d i b l t) (λ b. same .leakage i l (upward b)), counts-same c e fluid d i low (λ b. same .named low i l (upward b)))
+      where
+        upward : above ≤ d → T (liveOf (c .grid) (c .slots) above i)
+        upward b = let axis : d ≡ above = omega (arith, h) in subst (λ (d : ℕ). T (liveOf (c .grid) (c .slots) d i)) axis t
 
 -- and the same balance in that fluid, in every block of the grid
 pub balance-of-same : {c e : Case} {fluid : ℕ} → Counted (c .grid) → SameCases c e fluid → (i : ℕ) → i < blocksOf (c .grid) → balanceOf c fluid i ≡ balanceOf e fluid i
@@ -152,3 +160,43 @@ balance-of-same {c} {e} {fluid} counted same i l =
 -- and in both fluids
 pub balances-same : {c e : Case} → Counted (c .grid) → SameCases c e fresh → SameCases c e salt → (i : ℕ) → i < blocksOf (c .grid) → balancesOf c i ≡ balancesOf e i
 balances-same counted f s i l = both-same (balance-of-same counted f i l) (balance-of-same counted s i l)
+
+-- ---- two cases alike in the numbers that they need
+
+-- all that a live link or an active block looks at is inside the grid
+module _ (c : Case) (columns rows slots : List ℤ) (alike : Alike c (caseOf (c .grid) columns rows slots)) (counted : Counted (c .grid)) where
+  abbrev g : Grid
+  g = c .grid
+
+  abbrev other : Case
+  other = caseOf g columns rows slots
+
+  block : (i : ℕ) → i < blocksOf g → blockIn c i ≡ blockIn other i
+  block = block-in-same c columns rows slots alike
+
+  waters : (i : ℕ) → i < blocksOf g → watersOf g (c .slots) i ≡ watersOf g slots i
+  waters i l = waters-same g (c .slots) slots i (block i l)
+
+  area : (i : ℕ) → i < blocksOf g → areaOf c i ≡ areaOf other i
+  area = area-same c columns rows slots alike counted
+
+  lateral : (fluid d i : ℕ) → d < above → i < blocksOf g → T (liveOf g (c .slots) d i) → lateralAt c fluid d i ≡ lateralAt other fluid d i
+  lateral fluid d i h l live =
+      let far = live-inside g (c .slots) d i live counted l in
+      lateral-same c columns rows slots fluid d i
+      (λ low p e. let inside = behind-inside g counted d i p low far e in behind-same c columns rows slots fluid d p (along-same c columns rows slots alike counted p inside d) (waters p inside))
+      (face-same c columns rows slots alike counted i l d (omega (arith, h)) (live-next g (c .slots) d i live))
+      (side-same g (c .slots) slots i (block i l) fluid)
+      (side-same g (c .slots) slots (i + strideOf g d) (block (i + strideOf g d) far) fluid)
+
+  pub alike-cases : (fluid : ℕ) → SameCases c other fluid
+  alike-cases fluid =
+      record {
+        shape = shape-of-one refl;
+        active = λ i l. ap isActive (block i l);
+        lateral = lateral fluid;
+        leakage = λ i l live. leakage-same c columns rows slots i (block i l) (block (i + strideOf g above) (live-inside g (c .slots) above i live counted l)) (area i l);
+        named = λ low i l live. named-same g (c .slots) slots i low (waters i l) (waters (i + strideOf g above) (live-inside g (c .slots) above i live counted l));
+        own = λ i l a. own-same c columns rows slots fluid i (block i l) (area i l);
+        fixed = λ i l a. ap (λ b. fixedOf b fluid) (block i l);
+      }

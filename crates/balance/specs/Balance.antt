@@ -1,20 +1,18 @@
 -- Balances (document 01, "Balance, verdict, table"), in litres a day.
 use mathlib.Core.Bool.{false, true}
-use mathlib.Core.List.{List}
-use Prim.Native.Nat.{_*_, _<_, _≤_, ℕ}
-use lib.IntN.{_+ℤ_, _-ℤ_, negℤ, pos, ℤ}
-use lib.ListN.{length}
+use Prim.Native.Nat.{ℕ}
+use lib.IntN.{_+ℤ_, _-ℤ_, ℤ}
 use Rattle.whole.specs.Sum.{back, only, sum}
 use Rattle.grid.specs.declared.Grid.{Grid}
 use Rattle.grid.specs.Place.{strideOf}
 use Rattle.slices.specs.Slices.{Case}
 use Rattle.block.specs.declared.Fluids.{Fluids}
-use Rattle.block.specs.Fluids.{EachIn, fluidsOf, fresh, salt}
+use Rattle.block.specs.Fluids.{fluidsOf, fresh, salt}
 use Rattle.wellformed.specs.Links.{activeOf}
 use Rattle.books.specs.Bookkeeping.{Books, booksOf, broughtOf}
-use Rattle.books.specs.Rows.{pairOf}
 
--- what a block gains along an axis: by the link that leads on from it, and by the one that ends in it
+-- what a block gains along an axis: by the link that leads on from it, and by the one that ends in it, which is that of the block one stride before. At the end
+-- of a row, a column or the grid there is no such link, and the books have no flow for it (`liveOf`): the block one stride before the first of a row ends another
 unfoldable pub throughOf : Grid → Books → ℕ → ℕ → ℤ
 throughOf g F d i = broughtOf F true d i +ℤ back (strideOf g d) (broughtOf F false d) i
 
@@ -33,13 +31,3 @@ balanceOf c fluid i = only (activeOf (c .slots) i) (balanceIn (c .grid) (booksOf
 -- its balances in both fluids
 abbrev pub balancesOf : Case → ℕ → Fluids
 balancesOf c i = fluidsOf (balanceOf c fresh i) (balanceOf c salt i)
-
--- the greatest balance without sign, litres a day: seven flows, recharge, pumpage and storage rate,
--- 7 · 1,374,389,534,720 + 16,777,216,000 + 1,073,741,824 + 17,179,869,184,000
-abbrev pub mostBalance : ℕ
-mostBalance = 26818446884864
-
--- what later parts require of a row of balances
-pub record Bounded (n : ℕ) (row : List ℤ) : Type 0 where
-  pub room : 2 * n ≤ length row
-  pub each : (i : ℕ) → i < n → EachIn (negℤ (pos mostBalance)) (pos mostBalance) (pairOf row i)

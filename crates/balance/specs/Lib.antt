@@ -1,2 +1,3 @@
 -- The definitions of `balance`, for the crates above.
 pub mod Balance
+pub mod Inner

@@ -7,24 +7,25 @@ use Prim.Native.Nat.{suc, zero, ℕ}
 use native.Mathlib.Omega.{arith}
 use lib.IntN.{_*ℤ_, _+ℤ_, _-ℤ_, negℤ, pos, ℤ}
 use lib.Signed.{_≤ℤ_, leZ-yes, ltZ, ≤ℤ-refl}
-use Rattle.whole.specs.Whole.{Abs, In, clampOf, cutOf, isZero, maxℤ, minℤ}
+use Rattle.whole.specs.Inner.{Abs, In}
+use Rattle.whole.specs.Whole.{clampOf, cutOf, isZero, maxℤ, minℤ}
 use Rattle.whole.proofs.DivisionLaws.{cut-mono, cut-mul, cut-nonneg}
 use Rattle.whole.proofs.LinearLaws.{#, from1, from2, from3, linear, signed}
 use Rattle.whole.proofs.OrderLaws.{<ℤ-≤ℤ, clamp-above, clamp-below, maxℤ-l, maxℤ-r, maxℤ-≤, minℤ-r, mul-anti, mul-mono, mul-nonneg, one-least, zero-is, ≤ℤ-antisymm, ≤ℤ-or-<, ≤ℤ-trans}
 use Rattle.whole.proofs.RangeLaws.{leaf, lt-false, lt-true, ranges, within}
 use Rattle.whole.proofs.SearchLaws.{holds}
 use Rattle.grid.specs.declared.Grid.{Grid}
-use Rattle.grid.specs.Judging.{Termed}
+use Rattle.grid.specs.Inner.{Termed}
 use Rattle.slots.specs.declared.Block.{Block}
-use Rattle.slots.specs.Slots.{Ends}
+use Rattle.slots.specs.Inner.{Ends}
 use Rattle.slots.specs.Units.{mostPumpage, mostThickness}
 use Rattle.block.specs.declared.Fluids.{Fluids}
 use Rattle.block.specs.declared.geometry.Levels.{Levels}
 use Rattle.block.specs.Density.{interfaceOf}
-use Rattle.block.specs.Fluids.{EachIn, Thick, fluidsOf, inFluid, togetherOf}
-use Rattle.block.specs.Geometry.{Levelled, aquiferTopOf, hasWaterTable, heldOf, kOf, levelsOf, levelsOn, saturatedTopOf, thicknessesOf}
+use Rattle.block.specs.Inner.{EachIn, Level, Levelled, Thick, levelsOn, mostArea, mostFluidK, mostVolume}
+use Rattle.block.specs.Fluids.{fluidsOf, inFluid, togetherOf}
+use Rattle.block.specs.Geometry.{aquiferTopOf, hasWaterTable, heldOf, kOf, levelsOf, saturatedTopOf, thicknessesOf}
 use Rattle.block.specs.Storage.{storageOf, volumeOf}
-use Rattle.block.specs.Units.{Level, mostArea, mostFluidK, mostVolume}
 use Rattle.block.specs.Wells.{freshShareOf, isDry, lengthWithin, lengthsOf, sharesOf}
 use Rattle.block.proofs.DensityLaws.{salt-k-least, salt-k-most}
 

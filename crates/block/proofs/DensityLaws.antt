@@ -2,18 +2,17 @@
 use native.Mathlib.Omega.{arith}
 use lib.IntN.{_*ℤ_, _+ℤ_, _-ℤ_, negℤ, pos, ℤ}
 use lib.Signed.{_≤ℤ_, leZ-yes}
-use Rattle.whole.specs.Whole.{Abs}
+use Rattle.whole.specs.Inner.{Abs}
 use Rattle.whole.proofs.DivisionLaws.{floor-≤, floor-≥}
 use Rattle.whole.proofs.LinearLaws.{#, from1, from4, signed}
 use Rattle.whole.proofs.OrderLaws.{mul-mono, ≤ℤ-trans}
 use Rattle.whole.proofs.RangeLaws.{ranges, within}
 use Rattle.grid.specs.declared.Grid.{Grid}
-use Rattle.grid.specs.Judging.{Termed}
+use Rattle.grid.specs.Inner.{Termed}
 use Rattle.slots.specs.Units.{mostLevel}
 use Rattle.block.specs.declared.Fluids.{Fluids}
 use Rattle.block.specs.Density.{freshEquivalentOf, interfaceOf, saltKOf, seaHeadOf}
-use Rattle.block.specs.Fluids.{Heads}
-use Rattle.block.specs.Units.{Level, mostEquivalent, mostInterface}
+use Rattle.block.specs.Inner.{Heads, Level, mostEquivalent, mostInterface}
 
 -- |ζ| stays below 2³¹ ticks
 pub interface-in : (g : Grid) (h : Fluids) → Termed g → Heads h → Abs mostInterface (interfaceOf g h)

@@ -2,11 +2,12 @@
 use mathlib.Core.Path.{_≡_}
 use Prim.Native.Nat.{suc, zero, ℕ}
 use lib.IntN.{ℤ}
-use Rattle.whole.specs.Whole.{In}
+use Rattle.whole.specs.Inner.{In}
 use Rattle.slots.specs.declared.Block.{Block}
-use Rattle.slots.specs.Slots.{Ends}
+use Rattle.slots.specs.Inner.{Ends}
 use Rattle.block.specs.declared.Fluids.{Fluids}
-use Rattle.block.specs.Fluids.{EachIn, Heads, fluidsOf, inFluid, newHeads, oldHeads}
+use Rattle.block.specs.Inner.{EachIn, Heads}
+use Rattle.block.specs.Fluids.{fluidsOf, inFluid, newHeads, oldHeads}
 
 pub both-same : {a b c d : ℤ} → a ≡ c → b ≡ d → fluidsOf a b ≡ fluidsOf c d
 both-same p q = λ i. fluidsOf (p i) (q i)

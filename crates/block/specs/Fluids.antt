@@ -1,9 +1,7 @@
 -- The two fluids, by number: 0 fresh, 1 salt; any greater number means salt.
 use Prim.Native.Nat.{suc, zero, ℕ}
-use lib.IntN.{_+ℤ_, negℤ, pos, ℤ}
-use Rattle.whole.specs.Whole.{In}
+use lib.IntN.{_+ℤ_, ℤ}
 use Rattle.slots.specs.declared.Block.{Block}
-use Rattle.slots.specs.Units.{mostLevel, mostThickness}
 use Rattle.block.specs.declared.Fluids.{Fluids}
 
 abbrev pub fresh : ℕ
@@ -31,15 +29,3 @@ oldHeads b = fluidsOf (b .«old_fresh») (b .«old_salt»)
 
 abbrev pub newHeads : Block → Fluids
 newHeads b = fluidsOf (b .«new_fresh») (b .«new_salt»)
-
--- both numbers in one range: what later parts require
-pub record EachIn (lo hi : ℤ) (f : Fluids) : Type 0 where
-  pub of-fresh : In lo hi (f .fresh)
-  pub of-salt : In lo hi (f .salt)
-
--- heads and thicknesses, in ticks
-abbrev pub Heads : Fluids → Type 0
-Heads f = EachIn (negℤ (pos mostLevel)) (pos mostLevel) f
-
-abbrev pub Thick : Fluids → Type 0
-Thick f = EachIn (pos 0) (pos mostThickness) f

@@ -2,16 +2,14 @@
 use mathlib.Core.Bool.{Bool, _&&_, cond}
 use Prim.Native.Nat.{suc, zero, ℕ}
 use lib.Dec.{eqb}
-use lib.IntN.{_+ℤ_, _-ℤ_, pos, ℤ}
-use Rattle.whole.specs.Whole.{In, clampOf}
+use lib.IntN.{_+ℤ_, _-ℤ_, ℤ}
+use Rattle.whole.specs.Whole.{clampOf}
 use Rattle.grid.specs.declared.Grid.{Grid}
 use Rattle.slots.specs.declared.Block.{Block}
-use Rattle.slots.specs.Units.{mostThickness}
 use Rattle.block.specs.declared.Fluids.{Fluids}
 use Rattle.block.specs.declared.geometry.Levels.{Levels}
 use Rattle.block.specs.Density.{interfaceOf, saltKOf}
 use Rattle.block.specs.Fluids.{fluidsOf}
-use Rattle.block.specs.Units.{Level}
 
 -- "Aquifer top = base + thickness."
 unfoldable pub aquiferTopOf : Block → ℤ
@@ -37,19 +35,7 @@ levelsOf g b top h = record { base = b .base; interface = heldOf g b top h; top 
 unfoldable pub thicknessesOf : Levels → Fluids
 thicknessesOf l = fluidsOf (l .top -ℤ l .interface) (l .interface -ℤ l .base)
 
--- the same levels, of a block on its base, from its thicknesses: base, then salt water, then fresh
-unfoldable pub levelsOn : ℤ → Fluids → Levels
-levelsOn base waters = record { base = base; interface = base +ℤ waters .salt; top = base +ℤ waters .salt +ℤ waters .fresh }
-
 -- "K for salt is floor(K(δ+1)/δ)", and for fresh the block's own
 abbrev pub kOf : Grid → Block → ℕ → ℤ
 kOf g b zero = b .k
 kOf g b (suc n) = saltKOf g (b .k)
-
--- the levels of a block, in their order: what later parts require
-pub record Levelled (l : Levels) : Type 0 where
-  pub base : Level (l .base)
-  pub interface : Level (l .interface)
-  pub top : Level (l .top)
-  pub of-fresh : In (pos 0) (pos mostThickness) (l .top -ℤ l .interface)
-  pub of-salt : In (pos 0) (pos mostThickness) (l .interface -ℤ l .base)

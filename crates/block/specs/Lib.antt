@@ -5,3 +5,4 @@ pub mod Density
 pub mod Geometry
 pub mod Storage
 pub mod Wells
+pub mod Inner

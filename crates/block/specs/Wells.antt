@@ -20,11 +20,12 @@ lengthsOf b l = fluidsOf (lengthWithin b (l .interface) (l .top)) (lengthWithin 
 unfoldable pub isDry : Block → Fluids → Bool
 isDry b lengths = not (isZero (b .pumpage)) && isZero (togetherOf lengths)
 
--- "Fresh share = cut(pumpage·fresh length/wetted length)"; "both 0 for pumpage 0", whose screen has no length
+-- "Fresh share = cut(pumpage·fresh length/wetted length)"
 unfoldable pub freshShareOf : Block → Fluids → ℤ
 freshShareOf b lengths = cutOf (b .pumpage *ℤ lengths .fresh) (togetherOf lengths)
 
--- "salt the remainder"; nothing is taken of a screen that is nowhere wet
+-- "salt the remainder; both 0 for pumpage 0". The test is for a wetted length: with pumpage 0 the screen has none, or its slots are refused before, with 6; and a
+-- dry well takes nothing, where document 01 gives no shares
 unfoldable pub sharesOf : Block → Fluids → Fluids
 sharesOf b lengths =
     cond (ltZ (pos 0) (togetherOf lengths))

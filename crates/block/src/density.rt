@@ -2,11 +2,10 @@
 // face", "Leakage, river and sea"). No other rule reads it; grid's judging.rt asks its range.
 ghost use mathlib.Core.Path.{_≡_};
 ghost use lib.IntN.{pos};
-ghost use Rattle.whole.specs.Whole.{In, Abs};
-ghost use Rattle.grid.specs.Judging.{Termed};
+ghost use Rattle.whole.specs.Inner.{In, Abs};
+ghost use Rattle.grid.specs.Inner.{Termed};
 ghost use Rattle.slots.specs.Units.{mostK, mostLevel};
-ghost use Rattle.block.specs.Units.{Level};
-ghost use Rattle.block.specs.Fluids.{Heads};
+ghost use Rattle.block.specs.Inner.{Heads, Level};
 ghost use Rattle.block.specs.Density.{interfaceOf, saltKOf, freshEquivalentOf, seaHeadOf};
 use super::Fluids;
 use grid::Grid;

@@ -1,20 +1,11 @@
 // Levels and thicknesses of a block's waters (document 01, "One block"), and its K in each fluid.
 ghost use mathlib.Core.Path.{_≡_};
-ghost use Rattle.whole.specs.Whole.{Abs};
-ghost use Rattle.grid.specs.Judging.{Termed};
+ghost use Rattle.whole.specs.Inner.{Abs};
+ghost use Rattle.grid.specs.Inner.{Termed};
 ghost use Rattle.slots.specs.Units.{mostLevel};
-ghost use Rattle.slots.specs.Slots.{Ends};
-ghost use Rattle.block.specs.Fluids.{Heads, Thick};
-ghost use Rattle.block.specs.Geometry.{
-  aquiferTopOf,
-  hasWaterTable,
-  saturatedTopOf,
-  levelsOf,
-  thicknessesOf,
-  levelsOn,
-  kOf,
-  Levelled,
-};
+ghost use Rattle.slots.specs.Inner.{Ends};
+ghost use Rattle.block.specs.Inner.{Heads, Levelled, Thick, levelsOn};
+ghost use Rattle.block.specs.Geometry.{aquiferTopOf, hasWaterTable, saturatedTopOf, levelsOf, thicknessesOf, kOf};
 use super::Fluids;
 use super::density::interface;
 use super::density::salt_k;

@@ -7,7 +7,8 @@ pub mod units;
 pub mod wells;
 
 ghost use mathlib.Core.Path.{_≡_};
-ghost use Rattle.block.specs.Fluids.{inFluid, togetherOf, oldHeads, newHeads, Thick};
+ghost use Rattle.block.specs.Fluids.{inFluid, togetherOf, oldHeads, newHeads};
+ghost use Rattle.block.specs.Inner.{Thick};
 use slots::Block;
 use units::FRESH;
 

@@ -1,11 +1,11 @@
 // What a block stores (document 01, "One block").
 ghost use mathlib.Core.Path.{_≡_};
 ghost use lib.IntN.{pos};
-ghost use Rattle.whole.specs.Whole.{In};
-ghost use Rattle.grid.specs.Judging.{Termed};
+ghost use Rattle.whole.specs.Inner.{In};
+ghost use Rattle.grid.specs.Inner.{Termed};
 ghost use Rattle.slots.specs.Units.{mostThickness};
-ghost use Rattle.slots.specs.Slots.{Ends};
-ghost use Rattle.block.specs.Units.{mostArea};
+ghost use Rattle.slots.specs.Inner.{Ends};
+ghost use Rattle.block.specs.Inner.{mostArea};
 ghost use Rattle.block.specs.Storage.{volumeOf, storageOf};
 use super::units::TICKS;
 use grid::Grid;

@@ -1,9 +1,7 @@
 // Wells (document 01, "Leakage, river and sea"): how a screen stands in the two waters, and what it takes of each.
 ghost use mathlib.Core.Path.{_≡_};
-ghost use Rattle.block.specs.Units.{Level};
-ghost use Rattle.slots.specs.Slots.{Ends};
-ghost use Rattle.block.specs.Fluids.{Thick};
-ghost use Rattle.block.specs.Geometry.{Levelled};
+ghost use Rattle.block.specs.Inner.{Level, Levelled, Thick};
+ghost use Rattle.slots.specs.Inner.{Ends};
 ghost use Rattle.block.specs.Wells.{lengthWithin, lengthsOf, isDry, sharesOf};
 use super::Fluids;
 use super::geometry::Levels;

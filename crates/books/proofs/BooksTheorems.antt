@@ -10,10 +10,14 @@ use lib.IntN.{negℤ, pos, ℤ}
 use lib.Signed.{ltZ}
 use Rattle.whole.specs.Sum.{only}
 use Rattle.whole.proofs.SearchLaws.{true-is}
-use Rattle.grid.specs.Place.{Beside, behindOf, blocksOf, strideOf}
+use Rattle.grid.specs.declared.place.Neighbour.the-variants.{At}
+use Rattle.grid.specs.Meaning.{Beside}
+use Rattle.grid.specs.Place.{behindOf, blocksOf, coordinateOf, extentOf, placeOf, strideOf}
 use Rattle.grid.specs.Units.{above, nextRow}
+use Rattle.grid.proofs.GridTheorems.{behind-away, behind-outside}
 use Rattle.grid.proofs.PlaceLaws.{beside-link}
-use Rattle.slices.specs.Slices.{Case, Judged}
+use Rattle.slices.specs.Slices.{Case}
+use Rattle.slices.specs.Inner.{Judged}
 use Rattle.block.specs.Fluids.{fresh, salt}
 use Rattle.flow.specs.Lateral.{faceThicknessOf, tipOf}
 use Rattle.flow.specs.Leakage.{lowermostOf, uppermostOf}
@@ -52,6 +56,33 @@ tip-extrapolated c fluid d i low high = (
   λ a b. rw (a, b) (tip-low (faceOf c d i) low high (behindAt c fluid d (behindOf (c .grid) d i true)) a b),
   λ a b. rw (a, b) (tip-high (faceOf c d i) low high (behindAt c fluid d (behindOf (c .grid) d i false)) a b),
 )
+
+module _ (c : Case) (judged : Judged c) (fluid d i : ℕ) (low high : ℤ) (inside : i + strideOf (c .grid) d < blocksOf (c .grid)) where
+  -- the thickness of the face
+  abbrev B : ℤ
+  B = faceThicknessOf (faceOf c d i) low high (tipBehindOf c fluid d i low high)
+
+  -- "let p be the block on a's other side", by column and row: p is the block that touches a on the side away from the face.
+  pub tip-from-neighbour : (p : ℕ) → d ≤ nextRow → p < blocksOf (c .grid)
+      → (ltZ (pos 0) low ≡ true → ltZ (pos 0) high ≡ false → Beside (c .grid) d p i → B ≡ tipOf (faceOf c d i .low) low (behindAt c fluid d (At p)))
+      × (ltZ (pos 0) low ≡ false → ltZ (pos 0) high ≡ true → Beside (c .grid) d (i + strideOf (c .grid) d) p → B ≡ tipOf (faceOf c d i .high) high (behindAt c fluid d (At p)))
+  tip-from-neighbour p lateral l =
+      let away = behind-away (c .grid) (judged .counted) d i p (omega arith) l in
+      let tip = tip-extrapolated c fluid d i low high in (
+        λ a b beside. tip .0 a b ∙ ap (λ q. tipOf (faceOf c d i .low) low (behindAt c fluid d q)) (away .0 (omega (arith, inside)) .1 beside),
+        λ a b beside. tip .1 a b ∙ ap (λ q. tipOf (faceOf c d i .high) high (behindAt c fluid d q)) (away .1 inside .1 beside),
+      )
+
+  -- "If p is outside, .. B = 0": there is no p where a, on the face's low side, is the first block of its row or column or, on the high side, the last.
+  pub tip-at-edge : (ltZ (pos 0) low ≡ true → ltZ (pos 0) high ≡ false → coordinateOf (placeOf (c .grid) i) d ≡ 0 → B ≡ pos 0)
+      × (ltZ (pos 0) low ≡ false → ltZ (pos 0) high ≡ true → coordinateOf (placeOf (c .grid) (i + strideOf (c .grid) d)) d + 1 ≡ extentOf (c .grid) d → B ≡ pos 0)
+  unfolding tipOf
+  tip-at-edge =
+      let none = behind-outside (c .grid) (judged .counted) d i in
+      let tip = tip-extrapolated c fluid d i low high in (
+        λ a b first. tip .0 a b ∙ ap (λ q. tipOf (faceOf c d i .low) low (behindAt c fluid d q)) (none .0 .1 first),
+        λ a b last. tip .1 a b ∙ ap (λ q. tipOf (faceOf c d i .high) high (behindAt c fluid d q)) (none .1 inside .1 last),
+      )
 
 -- Live leakage leaves or enters each of its two blocks as the fluid named for that block, and as no other.
 pub leakage-as-named : (c : Case) (fluid i : ℕ) → T (liveOf (c .grid) (c .slots) above i)

@@ -8,7 +8,7 @@ use lib.Dec.{T}
 use lib.IntN.{negℤ, pos, ℤ}
 use lib.Signed.{_≤ℤ_, ltZ}
 use Rattle.whole.specs.Sum.{only}
-use Rattle.whole.specs.Whole.{Abs, In}
+use Rattle.whole.specs.Inner.{Abs, In}
 use Rattle.whole.proofs.RangeLaws.{leaf, ranges, within}
 use Rattle.whole.proofs.SearchLaws.{holds, true-is}
 use Rattle.whole.proofs.SumLaws.{only-abs, only-zero}
@@ -19,25 +19,28 @@ use Rattle.grid.specs.Place.{behindOf, blocksOf, nextOf, placeOf, strideOf}
 use Rattle.grid.specs.Units.{above, nextRow}
 use Rattle.grid.proofs.PlaceLaws.{behind-inside}
 use Rattle.slots.specs.Slots.{blockOf}
-use Rattle.slices.specs.Slices.{Case, Judged, mostWidth}
+use Rattle.slices.specs.Slices.{Case, mostWidth}
+use Rattle.slices.specs.Inner.{Judged}
 use Rattle.block.specs.Fluids.{newHeads}
 use Rattle.block.specs.Geometry.{aquiferTopOf}
 use Rattle.block.proofs.BlockLaws.{aquifer-top-in, k-in-range}
 use Rattle.block.proofs.FluidLaws.{in-fluid-in, new-heads-in}
 use Rattle.flow.specs.declared.lateral.Behind.{Behind}
-use Rattle.flow.specs.Lateral.{BehindIn, SideIn, faceConductanceOf}
-use Rattle.flow.specs.Leakage.{LeakageSideIn}
-use Rattle.flow.specs.Litres.{mostConductance, mostFlow, overAreaOf}
+use Rattle.flow.specs.Inner.{BehindIn, LeakageSideIn, SideIn, mostFlow}
+use Rattle.flow.specs.Lateral.{faceConductanceOf}
+use Rattle.flow.specs.Litres.{mostConductance, overAreaOf}
 use Rattle.flow.proofs.LateralLaws.{lateral-in}
 use Rattle.flow.proofs.LeakageLaws.{leakage-in}
 use Rattle.flow.proofs.LitresLaws.{over-area-in}
-use Rattle.wellformed.specs.Limits.{WellFormed, blockIn}
+use Rattle.wellformed.specs.Inner.{Placed, WellFormed}
+use Rattle.wellformed.specs.Limits.{blockIn}
 use Rattle.wellformed.specs.Links.{activeOf, liveOf}
-use Rattle.wellformed.specs.Widths.{Placed, alongOf, areaOf, faceOf}
+use Rattle.wellformed.specs.Widths.{alongOf, areaOf, faceOf}
 use Rattle.wellformed.proofs.LimitsLaws.{face-passes}
 use Rattle.wellformed.proofs.LinksLaws.{live-high, live-low, live-next, outside-dead, live-inside}
 use Rattle.wellformed.proofs.WidthsLaws.{area-in, face-in, placed}
-use Rattle.books.specs.Waters.{Slotted, watersOf}
+use Rattle.books.specs.Inner.{Slotted}
+use Rattle.books.specs.Waters.{watersOf}
 use Rattle.books.specs.Bookkeeping.{booksOf, broughtOf}
 use Rattle.books.specs.Links.{behindAt, carriedOf, countsOf, lateralAt, leakageAt, nobody, sideOf, tipBehindOf, leakageSideAt}
 use Rattle.books.proofs.WatersLaws.{active-ends, slotted, waters-thick, waters-within}

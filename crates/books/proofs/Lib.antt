@@ -3,4 +3,5 @@ pub mod RowsLaws
 pub mod WatersLaws
 pub mod CarriedLaws
 pub mod OwnLaws
+pub mod AlikeLaws
 pub mod BooksTheorems

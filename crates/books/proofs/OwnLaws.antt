@@ -3,26 +3,28 @@ use mathlib.Core.Bool.{true}
 use mathlib.Core.Path.{_≡_}
 use Prim.Native.Nat.{_<_, suc, zero, ℕ}
 use lib.IntN.{pos}
-use Rattle.whole.specs.Whole.{Abs, In}
+use Rattle.whole.specs.Inner.{Abs, In}
 use Rattle.whole.proofs.RangeLaws.{ranges, within}
 use Rattle.whole.proofs.SearchLaws.{holds}
 use Rattle.grid.specs.Place.{blocksOf, topOf}
-use Rattle.slots.specs.Slots.{Ends}
+use Rattle.slots.specs.Inner.{Ends}
 use Rattle.slots.specs.Units.{mostKind, mostPumpage, mostThickness}
 use Rattle.slices.specs.Slices.{Case}
 use Rattle.block.specs.Fluids.{inFluid}
 use Rattle.block.specs.Geometry.{thicknessesOf}
-use Rattle.block.specs.Units.{mostArea, mostVolume}
+use Rattle.block.specs.Inner.{mostArea, mostVolume}
 use Rattle.block.specs.Wells.{lengthsOf, sharesOf}
 use Rattle.block.proofs.BlockLaws.{shares-in, storage-in, thicknesses-thick}
 use Rattle.block.proofs.FluidLaws.{in-fluid-in}
-use Rattle.flow.specs.Litres.{mostFlow, mostOverArea}
+use Rattle.flow.specs.Inner.{mostFlow, mostOverArea}
 use Rattle.flow.proofs.BoundaryLaws.{boundary-in, recharge-in}
-use Rattle.wellformed.specs.Limits.{WellFormed, blockIn}
+use Rattle.wellformed.specs.Inner.{WellFormed}
+use Rattle.wellformed.specs.Limits.{blockIn}
 use Rattle.wellformed.specs.Links.{activeOf}
 use Rattle.wellformed.specs.Widths.{areaOf}
 use Rattle.wellformed.proofs.WidthsLaws.{area-in, placed}
-use Rattle.books.specs.Waters.{Slotted, newLevels, oldLevels, watersOf}
+use Rattle.books.specs.Inner.{Slotted}
+use Rattle.books.specs.Waters.{newLevels, oldLevels, watersOf}
 use Rattle.books.specs.Own.{fixingOf, ownOf, pumpedAt, storageAt}
 use Rattle.books.proofs.WatersLaws.{active-ends, lengths-in, new-levelled, old-levelled, slotted}
 

@@ -10,7 +10,7 @@ use lib.ListN.{getD, length, length-set, set}
 use lib.Seq.{getD-set-other, getD-set-same}
 use Rattle.block.specs.declared.Fluids.{Fluids}
 use Rattle.block.proofs.FluidLaws.{both-same}
-use Rattle.books.specs.Rows.{Row, filledOf, pairOf, putOf}
+use Rattle.books.specs.Inner.{Row, filledOf, pairOf, putOf}
 
 pub put-length : (row : List ℤ) (i : ℕ) (two : Fluids) → length (putOf row i two) ≡ length row
 put-length row i two = length-set (set row (2 * i) (two .fresh)) (2 * i + 1) (two .salt) ∙ length-set row (2 * i) (two .fresh)

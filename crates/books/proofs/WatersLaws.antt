@@ -13,18 +13,21 @@ use Rattle.grid.specs.declared.Grid.{Grid}
 use Rattle.grid.specs.Place.{blocksOf, topOf}
 use Rattle.grid.specs.Units.{mostBlocks}
 use Rattle.slots.specs.declared.Block.{Block}
-use Rattle.slots.specs.Slots.{Ends, blockOf}
-use Rattle.slices.specs.Slices.{Case, Judged, firstRefusal, orElse}
+use Rattle.slots.specs.Inner.{Ends}
+use Rattle.slots.specs.Slots.{blockOf}
+use Rattle.slices.specs.Slices.{Case, firstRefusal, orElse}
+use Rattle.slices.specs.Inner.{Judged}
 use Rattle.slices.proofs.SlicesLaws.{blames-none, here}
 use Rattle.block.specs.declared.Fluids.{Fluids}
-use Rattle.block.specs.Fluids.{Thick, fluidsOf, inFluid, newHeads, oldHeads}
-use Rattle.block.specs.Geometry.{Levelled, levelsOn, thicknessesOf}
+use Rattle.block.specs.Inner.{Levelled, Thick, levelsOn}
+use Rattle.block.specs.Fluids.{fluidsOf, inFluid, newHeads, oldHeads}
+use Rattle.block.specs.Geometry.{thicknessesOf}
 use Rattle.block.specs.Wells.{lengthsOf}
 use Rattle.block.proofs.BlockLaws.{lengths-thick, levels-back, levels-base, levels-levelled, thickness-within, thicknesses-thick}
 use Rattle.wellformed.specs.Links.{activeOf}
 use Rattle.wellformed.proofs.LinksLaws.{reach}
-use Rattle.books.specs.Waters.{Slotted, Sound, Watered, Wet, dryAt, dryOf, levelsAt, newLevels, oldLevels, watersOf, wellChecks}
-use Rattle.books.specs.Rows.{filledOf}
+use Rattle.books.specs.Inner.{Slotted, Sound, Watered, filledOf}
+use Rattle.books.specs.Waters.{Wet, dryAt, dryOf, levelsAt, newLevels, oldLevels, watersOf, wellChecks}
 use Rattle.books.proofs.RowsLaws.{filled-row}
 
 pub slotted : (c : Case) → Judged c → Slotted (c .grid) (c .slots)

@@ -2,17 +2,12 @@
 use mathlib.Core.Bool.{Bool, _&&_, cond, false}
 use mathlib.Core.List.{List, [], _∷_}
 use mathlib.Core.Path.{_≡_}
-use Prim.Native.Nat.{_*_, _+_, _<_, _≤_, ℕ}
-use lib.Dec.{T}
+use Prim.Native.Nat.{_<_, ℕ}
 use lib.IntN.{pos, ℤ}
-use lib.ListN.{length}
 use Rattle.whole.specs.Search.{firstOf}
 use Rattle.grid.specs.declared.Grid.{Grid}
-use Rattle.grid.specs.Judging.{Termed}
-use Rattle.grid.specs.Place.{Counted, blocksOf, topOf}
-use Rattle.slots.specs.Rules.{Active}
-use Rattle.slots.specs.Slots.{Ends, blockOf}
-use Rattle.slots.specs.Units.{slotsEach}
+use Rattle.grid.specs.Place.{blocksOf, topOf}
+use Rattle.slots.specs.Slots.{blockOf}
 use Rattle.slices.specs.declared.Refusal.{Refusal}
 use Rattle.slices.specs.Slices.{Case, blaming}
 use Rattle.block.specs.declared.Fluids.{Fluids}
@@ -21,7 +16,6 @@ use Rattle.block.specs.Fluids.{fluidsOf, newHeads, oldHeads}
 use Rattle.block.specs.Geometry.{levelsOf, thicknessesOf}
 use Rattle.block.specs.Wells.{isDry, lengthsOf}
 use Rattle.wellformed.specs.Links.{activeOf}
-use Rattle.books.specs.Rows.{Row}
 
 -- base, Z and U of a block, by heads that are its old or its new ones
 unfoldable pub levelsAt : Grid → List ℤ → ℕ → Fluids → Levels
@@ -55,19 +49,3 @@ dryOf g slots = firstOf (blocksOf g) (dryAt g slots)
 -- 13, judged last: "11 before 13"
 abbrev pub wellChecks : Case → List Refusal
 wellChecks c = blaming 13 (dryOf (c .grid) (c .slots)) ∷ []
-
--- what later parts require of a grid and its slots, as 3, 7, 4 and 6 do not refuse them
-pub record Slotted (g : Grid) (slots : List ℤ) : Type 0 where
-  pub counted : Counted g
-  pub termed : Termed g
-  pub room : slotsEach * blocksOf g ≤ length slots
-  pub active : (i : ℕ) → i < blocksOf g → T (activeOf slots i) → Active (blockOf slots i) (topOf g i)
-
--- what later parts require of a row of thicknesses
-abbrev pub Watered : Grid → List ℤ → List ℤ → Type 0
-Watered g slots row = Row (blocksOf g) (watersOf g slots) row
-
--- what later parts require of one block
-pub record Sound (slots : List ℤ) (i : ℕ) : Type 0 where
-  pub room : slotsEach * i + slotsEach ≤ length slots
-  pub ends : T (activeOf slots i) → Ends (blockOf slots i)

@@ -7,8 +7,8 @@ ghost use Rattle.grid.specs.Place.{behindOf, blocksOf, placeOf, strideOf};
 ghost use Rattle.grid.specs.Units.{above, nextRow};
 ghost use Rattle.slices.specs.Slices.{caseOf};
 ghost use Rattle.wellformed.specs.Links.{activeOf, liveOf};
-ghost use Rattle.wellformed.specs.Limits.{WellFormed};
-ghost use Rattle.books.specs.Waters.{Slotted, Watered};
+ghost use Rattle.wellformed.specs.Inner.{WellFormed};
+ghost use Rattle.books.specs.Inner.{Slotted, Watered};
 ghost use Rattle.books.specs.Links.{
   sideOf,
   behindAt,

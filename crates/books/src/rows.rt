@@ -2,7 +2,7 @@
 ghost use mathlib.Core.Path.{_≡_};
 ghost use Prim.Native.Nat.{_+_, _*_, _≤_};
 ghost use lib.ListN.{length};
-ghost use Rattle.books.specs.Rows.{pairOf, putOf};
+ghost use Rattle.books.specs.Inner.{pairOf, putOf};
 use block::Fluids;
 use grid::units::MOST_BLOCKS;
 

@@ -11,7 +11,7 @@ use lib.IntN.{_+ℤ_, pos, ℤ}
 use lib.ListN.{drop, drop-of-length-le, getD, length, length-append, length-drop, replicate, set, take}
 use lib.Seq.{paste, paste-suc, take-all, take-at}
 use Rattle.whole.specs.Sum.{sum}
-use Rattle.whole.specs.Whole.{Abs}
+use Rattle.whole.specs.Inner.{Abs}
 use Rattle.whole.proofs.OrderLaws.{abs-zero}
 use Rattle.whole.proofs.RangeLaws.{leaf, ranges, within}
 use Rattle.whole.proofs.SumLaws.{sum-in, sum-more}
@@ -19,13 +19,14 @@ use Rattle.grid.specs.Place.{blocksOf}
 use Rattle.grid.specs.Units.{mostBlocks}
 use Rattle.slices.specs.Slices.{Case}
 use Rattle.block.specs.Fluids.{fresh, salt}
-use Rattle.wellformed.specs.Limits.{WellFormed}
+use Rattle.wellformed.specs.Inner.{WellFormed}
 use Rattle.books.specs.Bookkeeping.{booksOf}
-use Rattle.balance.specs.Balance.{mostBalance}
+use Rattle.balance.specs.Inner.{mostBalance}
 use Rattle.zone.specs.declared.lines.Lines.{Lines}
-use Rattle.zone.specs.Table.{termsOf, totalsOf}
+use Rattle.zone.specs.Inner.{termsOf, totalsOf}
 use Rattle.zone.proofs.TermLaws.{Within, terms-in}
-use Rattle.budget.specs.Table.{addRow, addTable, entry, mostLine, rowOf, rowsOf, shareOf, tableTo}
+use Rattle.budget.specs.Inner.{addRow, addTable, entry, mostLine, rowsOf, shareOf, tableTo}
+use Rattle.budget.specs.Table.{rowOf}
 
 -- ---- two rows added
 

@@ -1,20 +1,18 @@
 -- The table that a client is answered, and what it is refused with (document 01, "Refusal numbers").
-use mathlib.Core.Bool.{Bool, cond, true}
-use mathlib.Core.List.{List, [], _++_, _∷_}
-use mathlib.Core.Path.{_≡_}
-use Prim.Native.Nat.{_*_, _+_, _<_, suc, zero, ℕ}
+use mathlib.Core.Bool.{Bool, true}
+use mathlib.Core.List.{List, _++_, _∷_}
+use Prim.Native.Nat.{_+_, ℕ}
 use lib.Dec.{eqb, leb}
 use lib.IntN.{pos, ℤ}
-use lib.ListN.{getD, length, replicate, set}
+use lib.ListN.{length, replicate}
 use Rattle.whole.specs.Ranges.{allWithin, between}
 use Rattle.grid.specs.declared.Grid.{Grid}
 use Rattle.grid.specs.Place.{blocksOf, placeOf}
 use Rattle.slices.specs.declared.Refusal.{Refusal}
 use Rattle.slices.specs.Slices.{Case, firstRefusal, unless, unlessRefused}
 use Rattle.block.specs.Fluids.{fresh, salt}
-use Rattle.wellformed.specs.Limits.{checkedOf, checksOf, lentChecksOf}
-use Rattle.books.specs.Waters.{Wet, wellChecks}
-use Rattle.zone.specs.declared.lines.Lines.{Lines}
+use Rattle.wellformed.specs.Limits.{checksOf, lentChecksOf}
+use Rattle.books.specs.Waters.{wellChecks}
 use Rattle.zone.specs.Table.{linesOf}
 use Rattle.zone.specs.Zones.{markedOf}
 use Rattle.budget.specs.declared.Answer.{Answer}
@@ -53,14 +51,6 @@ layerZone g layer i = eqb (placeOf g i .layer + 1) layer
 abbrev pub everywhere : ℕ → Bool
 everywhere i = true
 
--- the mark of a block, and marks put in for the blocks below n; the rest is as it was
-abbrev pub markOf : (ℕ → Bool) → ℕ → ℤ
-markOf z i = cond (z i) (pos 1) (pos 0)
-
-unfoldable pub marksOf : ℕ → (ℕ → Bool) → List ℤ → List ℤ
-marksOf zero z row = row
-marksOf (suc n) z row = set (marksOf n z row) n (markOf z n)
-
 -- ---- answers
 
 -- the eighteen lines of a zone, fresh before salt, litres a day: "two rows, fresh and salt, of nine lines"
@@ -91,28 +81,3 @@ layerAnswer c layer = tabled (caseRefusal c) (eighteenOf c (layerZone (c .grid) 
 
 unfoldable pub wholeAnswer : Case → Answer
 wholeAnswer c = tabled (caseRefusal c) (eighteenOf c everywhere)
-
--- the nine lines of a fluid, read from the eighteen of an answer
-unfoldable pub readOf : Answer → ℕ → Lines
-readOf a fluid =
-    record {
-      storage = at 0;
-      «edge_in» = at 1;
-      «edge_out» = at 2;
-      converted = at 3;
-      wells = at 4;
-      recharge = at 5;
-      boundary = at 6;
-      supply = at 7;
-      error = at 8;
-    }
-  where
-    at : ℕ → ℤ
-    at line = getD (a .lines) (9 * fluid + line) (pos 0)
-
--- What the theorems about tables speak of: an answer gives the table of a zone where the case is well formed, no well is dry, and the lines of each
--- fluid are those of the zone.
-pub record Tells (c : Case) (z : ℕ → Bool) (a : Answer) : Type 0 where
-  pub checked : checkedOf c .number ≡ 0
-  pub wet : Wet (c .grid) (c .slots)
-  pub lines : (fluid : ℕ) → fluid < 2 → readOf a fluid ≡ linesOf c z fluid

@@ -5,25 +5,15 @@ mod table;
 ghost use mathlib.Core.Path.{_≡_};
 ghost use Prim.Native.Nat.{_≤_, _<_};
 ghost use lib.ListN.{length};
-ghost use Rattle.grid.specs.Place.{Counted, blocksOf};
+ghost use Rattle.grid.specs.Inner.{Counted};
+ghost use Rattle.grid.specs.Place.{blocksOf};
 ghost use Rattle.slices.specs.Slices.{caseOf, firstRefusal};
-ghost use Rattle.wellformed.specs.Limits.{WellFormed};
+ghost use Rattle.wellformed.specs.Inner.{WellFormed};
 ghost use Rattle.books.specs.Waters.{wellChecks};
 ghost use Rattle.zone.specs.Zones.{markedOf};
-ghost use Rattle.zone.specs.Table.{Ready, Worked};
-ghost use Rattle.budget.specs.Answers.{
-  layerZone,
-  markOf,
-  marksOf,
-  everywhere,
-  eighteenOf,
-  refusing,
-  tabled,
-  zoneOfCase,
-  zoneAnswer,
-  layerAnswer,
-  wholeAnswer,
-};
+ghost use Rattle.zone.specs.Inner.{Ready, Worked};
+ghost use Rattle.budget.specs.Answers.{layerZone, everywhere, eighteenOf, refusing, tabled, zoneOfCase, zoneAnswer, layerAnswer, wholeAnswer};
+ghost use Rattle.budget.specs.Inner.{markOf, marksOf};
 use balance::balances::fill_balances;
 use books::rows::ROW;
 use books::waters::fill_waters;
@@ -174,7 +164,7 @@ pub fn layer_on(
     table_on(g, columns, rows, slots, waters, balances, &marks)
 }
 
-// The same of the whole grid.
+// The same of the whole grid. Inner: the case is well formed and the rows hold its thicknesses and its balances.
 pub fn whole_on(
     g: Grid,
     columns: &[i64],

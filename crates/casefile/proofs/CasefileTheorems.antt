@@ -11,7 +11,8 @@ use Rattle.grid.specs.declared.Grid.{Grid}
 use Rattle.grid.specs.Judging.{countsHold}
 use Rattle.grid.specs.Place.{blocksOf}
 use Rattle.slots.specs.Units.{slotsEach}
-use Rattle.slices.specs.Slices.{Roomy, caseOf, none, shapeOf}
+use Rattle.slices.specs.Inner.{Roomy}
+use Rattle.slices.specs.Slices.{caseOf, none, shapeOf}
 use Rattle.slices.proofs.SlicesLaws.{here, holds-among}
 use Rattle.wellformed.specs.Limits.{checkedOf}
 use Rattle.wellformed.proofs.RoomLaws.{Alike, room-unread}

@@ -13,30 +13,34 @@ use lib.Seq.{take-at}
 use borrow.Author.Tests.{eq-eqb, ne-eqb}
 use Rattle.whole.specs.Lent.{over}
 use Rattle.whole.specs.Ranges.{allWithin, between, inRange}
-use Rattle.whole.specs.Whole.{In}
+use Rattle.whole.specs.Inner.{In}
 use Rattle.whole.proofs.OrderLaws.{in-abs}
 use Rattle.whole.proofs.RangeLaws.{leaf, within}
 use Rattle.whole.proofs.SearchLaws.{every-passes, follows, none-first, true-is}
 use Rattle.grid.specs.declared.Grid.{Grid}
-use Rattle.grid.specs.Judging.{Termed, countsHold, termsHold}
-use Rattle.grid.specs.Place.{Counted, blocksOf, topOf}
+use Rattle.grid.specs.Inner.{Counted, Termed}
+use Rattle.grid.specs.Judging.{countsHold, termsHold}
+use Rattle.grid.specs.Place.{blocksOf, topOf}
 use Rattle.grid.specs.Record.{counts, terms}
 use Rattle.grid.proofs.JudgingLaws.{counted-counts, termed-terms}
 use Rattle.slots.specs.Rules.{slotsHold}
 use Rattle.slots.specs.Slots.{partOf}
 use Rattle.slots.specs.Units.{slotsEach}
 use Rattle.slices.specs.declared.Refusal.{Refusal}
-use Rattle.slices.specs.Slices.{Case, Judged, Roomy, blaming, caseOf, contentsOf, faultOf, firstRefusal, mostWidth, none, orElse, roomHolds, shapeOf, unless, widthsHold, judgedOf}
-use Rattle.slices.proofs.SlicesLaws.{none-refused, none-together, or-first, or-next, contents-pass, judged-stands, shape-passes}
+use Rattle.slices.specs.Slices.{Case, blaming, caseOf, contentsOf, faultOf, firstRefusal, mostWidth, none, orElse, roomHolds, shapeOf, slotsFail, unless, widthsHold}
+use Rattle.slices.specs.Inner.{Judged, Roomy, judgedOf}
+use Rattle.slices.proofs.SlicesLaws.{contents-pass, here, judged-stands, later, none-among, none-refused, none-together, or-first, or-next, shape-passes}
 use Rattle.wellformed.specs.Limits.{checkedOf, checksOf, firstAtFault, limitsOf}
 use Rattle.fields.specs.declared.Part.{Part}
 use Rattle.fields.specs.declared.Part.the-variants.{Counts, Terms, Widths}
 use Rattle.fields.specs.declared.runs.Run.{Run}
 use Rattle.fields.specs.declared.runs.Run.the-variants.{Done, Refused}
-use Rattle.fields.specs.Fields.{Within, endsOf, recordRange}
+use Rattle.fields.specs.Inner.{Within}
+use Rattle.fields.specs.Fields.{endsOf, recordRange}
 use Rattle.fields.specs.Runs.{endingOf, fillOf}
 use Rattle.fields.proofs.FilledLaws.{Early, Numbered, Telling, blocks-before, blocks-hold, blocks-length, blocks-telling, done-before, done-numbered, done-telling, early-numbered, ended-done, fill-of-length, fill-of-numbered, fill-of-telling, fill-within, number-in, terms-sent, widths-sent}
-use Rattle.casefile.specs.Reading.{Read, giving, after, bodyOf, caseFrom, columnsFrom, countedOf, judging, readingOf, refusing, rowsFrom, storedOf, slotsFrom, termedOf, afterCounts}
+use Rattle.casefile.specs.Reading.{Read, giving, after, bodyOf, caseFrom, columnsFrom, countedOf, endChecks, judging, readingOf, refusing, rowsFrom, slotsFrom, termedOf, afterCounts}
+use Rattle.casefile.specs.Inner.{storedOf}
 
 -- ---- a case that was read
 
@@ -88,7 +92,7 @@ body-judged g file at next counted termed e =
     let column = done-before columns Widths file (g .rows) (row .0) (row .1) in
     let slots = slotsFrom g file at .values in
     let widths = ap₂ _&&_ (widths-hold (Done at) file (g .columns) (column .0) (column .1)) (widths-hold columns file (g .rows) (row .0) (row .1)) in
-    let fault = none-first (λ i. not (slotsHold (partOf slots i) (topOf g i))) (blocksOf g) (λ i l. ap not (true-is {b = slotsHold (partOf slots i) (topOf g i)} (blocks-hold rows g file (blocksOf g) next e i l))) in
+    let fault = none-first (slotsFail g slots) (blocksOf g) (λ i l. ap not (true-is {b = slotsHold (partOf slots i) (topOf g i)} (blocks-hold rows g file (blocksOf g) next e i l))) in
     none-together (shapeOf c) (contentsOf c) (shape-passes c counted (body-roomy g file at next e)) (contents-pass c (true-is termed) widths fault)
 
 -- so it is judged
@@ -151,6 +155,15 @@ pub judging-goes-on : (r s : Refusal) (more : Read) → r ≡ s → r .number �
 unfolding judging
 judging-goes-on r s more e h = rw (← e, eq-eqb (r .number) 0 h) refl
 
+-- the end of the run is judged first, and where it is none the case is
+pub body-stays : (g : Grid) (file : List ℕ) (at : ℕ) (r : Refusal) → r ≡ endingOf (slotsFrom g file at .run) file → (r .number ≡ 0 → ⊥) → bodyOf g file at ≡ refusing r
+unfolding bodyOf endChecks firstRefusal
+body-stays g file at r e h = judging-stays r _ _ (e ∙ sym (or-first _ (firstRefusal (limitsOf (caseFrom g file at))) (λ z. h (ap (λ s. s .number) e ∙ z)))) h
+
+pub body-goes-on : (g : Grid) (file : List ℕ) (at : ℕ) → endingOf (slotsFrom g file at .run) file .number ≡ 0 → bodyOf g file at ≡ storedOf (caseFrom g file at)
+unfolding bodyOf endChecks firstRefusal storedOf
+body-goes-on g file at z = ap (λ r. judging r (giving (caseFrom g file at))) (or-next (endingOf (slotsFrom g file at .run) file) (firstRefusal (limitsOf (caseFrom g file at))) z)
+
 -- a run that is refused ends the reading, and one that is done lets it go on
 pub after-refused : (run : Run) (r : Refusal) (more : ℕ → Read) → run ≡ Refused r → after run more ≡ refusing r
 unfolding after
@@ -163,7 +176,7 @@ after-done run at more e = rw e refl
 -- what follows the counts, by the run over the terms
 pub terms-refused : (g : Grid) (file : List ℕ) (at : ℕ) (run : Run) (r : Refusal) → run ≡ fillOf (Done at) Terms file terms .run → run ≡ Refused r → afterCounts g file at ≡ refusing r
 unfolding afterCounts
-terms-refused g file at run r e h = let f = fillOf (Done at) Terms file terms in after-refused (f .run) r (bodyOf (termedOf g (f .values)) file) (sym e ∙ h)
+terms-refused g file at run r e h = let f = fillOf (Done at) Terms file terms in after-refused (f .run) r _ (sym e ∙ h)
 
 pub terms-done : (g h : Grid) (file : List ℕ) (at next : ℕ) (run : Run) → run ≡ fillOf (Done at) Terms file terms .run → run ≡ Done next → h ≡ termedOf g (fillOf (Done at) Terms file terms .values) → afterCounts g file at ≡ bodyOf h file next
 unfolding afterCounts
@@ -173,10 +186,7 @@ terms-done g h file at next run e d s = let f = fillOf (Done at) Terms file term
 module _ (file : List ℕ) (columns rows slots : List ℤ) (run : Run) (told : run ≡ fillOf (Done 0) Counts file counts .run) where
   pub counts-refused : (r : Refusal) → run ≡ Refused r → readingOf file columns rows slots ≡ refusing r
   unfolding readingOf
-  counts-refused r h =
-      let f = fillOf (Done 0) Counts file counts in
-      let g = countedOf (f .values) in
-      after-refused (f .run) r (λ at. judging (firstRefusal (shapeOf (caseOf g columns rows slots))) (afterCounts g file at)) (sym told ∙ h)
+  counts-refused r h = after-refused (fillOf (Done 0) Counts file counts .run) r _ (sym told ∙ h)
 
   pub counts-done : (g : Grid) (next : ℕ) → run ≡ Done next → g ≡ countedOf (fillOf (Done 0) Counts file counts .values) → readingOf file columns rows slots ≡ judging (firstRefusal (shapeOf (caseOf g columns rows slots))) (afterCounts g file next)
   unfolding readingOf
@@ -202,15 +212,26 @@ unfolding after
 after-none (Refused r) more h e = absurd (h r refl e)
 after-none (Done at) more h e = (at, refl)
 
+-- two refusals that are none
+none-two : (x y : Refusal) → x .number ≡ 0 → y .number ≡ 0 → firstRefusal (x ∷ y ∷ []) .number ≡ 0
+unfolding firstRefusal
+none-two x y h k = ap (λ r. r .number) (or-next x (orElse y none) h ∙ or-next y none k)
+
 -- a file's body that is not refused: it was read to its end, passes 9 and 10, and is the answer
 body-none : (g : Grid) (file : List ℕ) (at : ℕ) → bodyOf g file at .answer .refusal .number ≡ 0 →
     (endingOf (slotsFrom g file at .run) file .number ≡ 0) × ((firstRefusal (limitsOf (caseFrom g file at)) .number ≡ 0) × (bodyOf g file at ≡ giving (caseFrom g file at)))
-unfolding bodyOf storedOf
+unfolding bodyOf endChecks limitsOf
 body-none g file at e =
     let c = caseFrom g file at in
-    let ended = judging-none (endingOf (slotsFrom g file at .run) file) (storedOf c) e in
-    let limits = judging-none (firstRefusal (limitsOf c)) (giving c) (rw (ended .1) at e) in
-    (ended .0, (limits .0, ended .1 ∙ limits .1))
+    let overlap = blaming 9 (firstAtFault c 9) in
+    let limit = blaming 10 (firstAtFault c 10) in
+    let refused = judging-none (firstRefusal (endChecks g file at)) (giving c) e in (
+      none-among {x = endingOf (slotsFrom g file at .run) file} {xs = endChecks g file at} (search (here, later)) (refused .0),
+      (
+        none-two overlap limit (none-among {x = overlap} {xs = endChecks g file at} (search (here, later)) (refused .0)) (none-among {x = limit} {xs = endChecks g file at} (search (here, later)) (refused .0)),
+        refused .1,
+      ),
+    )
 
 -- terms within their ends pass 4
 terms-hold : (g : Grid) (v : List ℤ) → Within Terms terms v → T (termsHold (termedOf g v))
@@ -289,33 +310,43 @@ blaming-most : (n b : ℕ) → n ≤ 10 → blaming n b .number ≤ 10
 blaming-most n zero h = omega arith
 blaming-most n (suc b) h = h
 
--- and the first of two
-first-most : (x y : Refusal) → x .number ≤ 10 → y .number ≤ 10 → firstRefusal (x ∷ y ∷ []) .number ≤ 10
+-- and the first of some that are
+data EachMost : List Refusal → Type 0 where
+  no-more : EachMost []
+  one-more : {x : Refusal} {xs : List Refusal} → x .number ≤ 10 → EachMost xs → EachMost (x ∷ xs)
+
+first-most : (xs : List Refusal) → EachMost xs → firstRefusal xs .number ≤ 10
 unfolding firstRefusal
-first-most x y h k = or-most x (orElse y none) h (or-most y none k (omega arith))
+first-most [] no-more = omega arith
+first-most (x ∷ xs) (one-more h rest) = go (ℕ-discrete (x .number) 0) (first-most xs rest)
   where
-    or-most : (x y : Refusal) → x .number ≤ 10 → y .number ≤ 10 → orElse x y .number ≤ 10
-    or-most x y h k = go (ℕ-discrete (x .number) 0)
-      where
-        go : Dec (x .number ≡ 0) → orElse x y .number ≤ 10
-        go (yes z) = rw (or-next x y z) k
-        go (no z) = rw (or-first x y z) h
+    go : Dec (x .number ≡ 0) → firstRefusal xs .number ≤ 10 → orElse x (firstRefusal xs) .number ≤ 10
+    go (yes z) k = rw (or-next x (firstRefusal xs) z) k
+    go (no z) k = rw (or-first x (firstRefusal xs) z) h
 
 -- 3 and 7
 shape-most : (c : Case) → firstRefusal (shapeOf c) .number ≤ 10
 unfolding shapeOf
-shape-most c = first-most (unless 3 (countsHold (c .grid))) (unless 7 (roomHolds c)) (unless-most 3 (countsHold (c .grid)) (omega arith)) (unless-most 7 (roomHolds c) (omega arith))
-
--- 9 and 10
-limits-most : (c : Case) → firstRefusal (limitsOf c) .number ≤ 10
-unfolding limitsOf
-limits-most c = first-most (blaming 9 (firstAtFault c 9)) (blaming 10 (firstAtFault c 10)) (blaming-most 9 (firstAtFault c 9) (omega arith)) (blaming-most 10 (firstAtFault c 10) (omega arith))
+shape-most c =
+    let counts = unless-most 3 (countsHold (c .grid)) (omega arith) in
+    let room = unless-most 7 (roomHolds c) (omega arith) in
+    first-most (shapeOf c) (search (no-more, one-more, counts, room))
 
 -- 8, after what a run tells
 ending-most : (run : Run) (file : List ℕ) → Telling Listed run → endingOf run file .number ≤ 10
 unfolding endingOf
 ending-most (Refused r) file h = h r refl .1
 ending-most (Done at) file h = unless-most 8 (leb (length file) at) (omega arith)
+
+-- 8, 9 and 10
+end-most : (g : Grid) (file : List ℕ) (at : ℕ) → firstRefusal (endChecks g file at) .number ≤ 10
+unfolding endChecks limitsOf
+end-most g file at =
+    let c = caseFrom g file at in
+    let end = ending-most (slotsFrom g file at .run) file (body-telling Listed early-listed g file at) in
+    let overlap = blaming-most 9 (firstAtFault c 9) (omega arith) in
+    let limit = blaming-most 10 (firstAtFault c 10) (omega arith) in
+    first-most (endChecks g file at) (search (no-more, one-more, end, overlap, limit))
 
 -- what holds of every case that is unrefused and of every refusal from 1 to 10 holds of whatever a file is answered with
 module _ (Holds : Read → Type 0) (accepts : (c : Case) → Holds (giving c)) (refuses : (r : Refusal) → Listed (r .number) → Holds (refusing r)) where
@@ -335,11 +366,8 @@ module _ (Holds : Read → Type 0) (accepts : (c : Case) → Holds (giving c)) (
 
   -- of what follows the terms
   body-holds : (g : Grid) (file : List ℕ) (at : ℕ) → Holds (bodyOf g file at)
-  unfolding bodyOf storedOf
-  body-holds g file at =
-      let c = caseFrom g file at in
-      judging-holds (endingOf (slotsFrom g file at .run) file) (storedOf c) (ending-most (slotsFrom g file at .run) file (body-telling Listed early-listed g file at))
-      (judging-holds (firstRefusal (limitsOf c)) (giving c) (limits-most c) (accepts c))
+  unfolding bodyOf
+  body-holds g file at = judging-holds (firstRefusal (endChecks g file at)) (giving (caseFrom g file at)) (end-most g file at) (accepts (caseFrom g file at))
 
   -- and of the whole file
   pub read-holds : (file : List ℕ) (columns rows slots : List ℤ) → Holds (readingOf file columns rows slots)

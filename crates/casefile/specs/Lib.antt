@@ -1,2 +1,3 @@
 -- The definitions of `casefile`, for the crates above.
 pub mod Reading
+pub mod Inner

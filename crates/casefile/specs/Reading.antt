@@ -1,5 +1,5 @@
 -- A case file, read whole (document 01, "The case file"): "Order: columns, rows, layers, δ, flag, step, tolerance, column widths, row widths, then per block ..".
-use mathlib.Core.List.{List, []}
+use mathlib.Core.List.{List, [], _∷_}
 use Prim.Native.Nat.{ℕ}
 use lib.IntN.{natAbs, pos, ℤ}
 use lib.ListN.{getD}
@@ -61,13 +61,13 @@ slotsFrom g file at = blocksFrom (rowsFrom g file at .run) g file (blocksOf g)
 unfoldable pub caseFrom : Grid → List ℕ → ℕ → Case
 caseFrom g file at = caseOf g (columnsFrom g file at .values) (rowsFrom g file at .values) (slotsFrom g file at .values)
 
--- "9, 10": a case that was read, judged by these
-unfoldable pub storedOf : Case → Read
-storedOf c = judging (firstRefusal (limitsOf c)) (giving c)
+-- "then 8, 9, 10": what a file is refused with after its terms. A run that was refused comes first, and has no case to judge.
+unfoldable pub endChecks : Grid → List ℕ → ℕ → List Refusal
+endChecks g file at = endingOf (slotsFrom g file at .run) file ∷ limitsOf (caseFrom g file at)
 
--- what follows the terms: "then 8, 9, 10"
+-- what follows the terms
 unfoldable pub bodyOf : Grid → List ℕ → ℕ → Read
-bodyOf g file at = judging (endingOf (slotsFrom g file at .run) file) (storedOf (caseFrom g file at))
+bodyOf g file at = judging (firstRefusal (endChecks g file at)) (giving (caseFrom g file at))
 
 -- what follows the counts: "δ, flag, step, tolerance", and then the rest
 unfoldable pub afterCounts : Grid → List ℕ → ℕ → Read

@@ -3,21 +3,14 @@ ghost use mathlib.Core.Path.{_≡_};
 ghost use Prim.Native.Nat.{_≤_};
 ghost use lib.ListN.{length};
 ghost use Rattle.whole.specs.Lent.{over};
-ghost use Rattle.grid.specs.Judging.{Termed};
-ghost use Rattle.grid.specs.Place.{Counted};
+ghost use Rattle.grid.specs.Inner.{Counted, Termed};
 ghost use Rattle.grid.specs.Record.{counts, terms};
-ghost use Rattle.slices.specs.Slices.{caseOf, Judged, Roomy};
+ghost use Rattle.slices.specs.Slices.{caseOf};
+ghost use Rattle.slices.specs.Inner.{Judged, Roomy};
 ghost use Rattle.fields.specs.declared.Part.the-variants.{Counts, Terms};
-ghost use Rattle.fields.specs.Fields.{Within};
-ghost use Rattle.casefile.specs.Reading.{
-  refusing,
-  countedOf,
-  termedOf,
-  storedOf,
-  bodyOf,
-  afterCounts,
-  readingOf,
-};
+ghost use Rattle.fields.specs.Inner.{Within};
+ghost use Rattle.casefile.specs.Reading.{refusing, countedOf, termedOf, bodyOf, afterCounts, readingOf};
+ghost use Rattle.casefile.specs.Inner.{storedOf};
 use fields::MOST_SLOTS;
 use fields::Part;
 use fields::runs::Run;

@@ -12,8 +12,8 @@ use borrow.Author.Tests.{eq-eqb, le-leb, le-ltb}
 use Rattle.whole.proofs.SearchLaws.{holds}
 use Rattle.whole.specs.Lent.{over}
 use Rattle.grid.proofs.JudgingLaws.{counts-counted, terms-termed}
-use Rattle.grid.specs.Judging.{Termed, countsHold, termsHold}
-use Rattle.grid.specs.Place.{Counted}
+use Rattle.grid.specs.Inner.{Counted, Termed}
+use Rattle.grid.specs.Judging.{countsHold, termsHold}
 use Rattle.grid.specs.Record.{recordNumbers}
 use Rattle.grid.specs.declared.Grid.{Grid}
 use Rattle.slices.proofs.SlicesLaws.{first-append}
@@ -21,10 +21,9 @@ use Rattle.slices.specs.Slices.{Case, blaming, caseOf, contentsOf, faultOf, fir
 use Rattle.wellformed.specs.Limits.{checkedLent, checkedOf, limitsOf}
 use Rattle.wellformed.proofs.LimitsLaws.{lent-reaches}
 use Rattle.casefile.proofs.CasefileTheorems.{read-passes}
-use Rattle.casefile.specs.Reading.{Read, readingOf}
+use Rattle.casefile.specs.Reading.{Read, readingOf, refusing as unread}
 use Rattle.crossing.specs.Crossing.{checkHanded, countIn, flagIn, gridOf, handed, numbersOfGrid, readHanded, recordLeft, short}
 use Rattle.crossing.proofs.CrossingLaws.{check-long}
-use Rattle.casefile.specs.Reading.{refusing as unread}
 
 count-back : (n : ℕ) → countIn (pos n) ≡ n
 count-back n = rw (le-ltb n 0 (omega arith)) refl

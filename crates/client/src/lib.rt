@@ -11,17 +11,7 @@ ghost use Rattle.slots.specs.Units.{mostLevel};
 ghost use Rattle.metres.specs.declared.boundary.Boundary.the-variants.{Sea};
 ghost use Rattle.metres.specs.Boundaries.{boundarySlotsOf};
 ghost use Rattle.metres.specs.Metres.{shownOf, takenOf};
-ghost use Rattle.crossing.specs.Crossing.{
-  checkHanded,
-  verdictHanded,
-  tableHanded,
-  reportHanded,
-  readHanded,
-  verdictLeft,
-  tableLeft,
-  reportLeft,
-  recordLeft,
-};
+ghost use Rattle.crossing.specs.Crossing.{checkHanded, verdictHanded, tableHanded, reportHanded, readHanded, verdictLeft, tableLeft, reportLeft, recordLeft};
 ghost use Rattle.client.specs.Kept.{kept};
 use casefile::read_case;
 use crossing::hand;

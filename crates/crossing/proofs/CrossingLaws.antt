@@ -14,14 +14,16 @@ use Rattle.whole.specs.Sum.{count}
 use Rattle.whole.proofs.SearchLaws.{both, cond-both, first-most}
 use Rattle.whole.proofs.SumLaws.{count-most}
 use Rattle.grid.specs.declared.Grid.{Grid}
-use Rattle.grid.specs.Judging.{Termed}
-use Rattle.grid.specs.Place.{Counted, blocksOf}
+use Rattle.grid.specs.Inner.{Counted, Termed}
+use Rattle.grid.specs.Place.{blocksOf}
 use Rattle.grid.specs.Record.{recordNumbers}
 use Rattle.grid.specs.Units.{mostBlocks}
 use Rattle.slices.specs.declared.Refusal.{Refusal}
-use Rattle.slices.specs.Slices.{Case, caseOf, reachesOver, unlessRefused}
+use Rattle.slices.specs.Slices.{Case, caseOf, unlessRefused}
+use Rattle.slices.specs.Inner.{reachesOver}
 use Rattle.block.specs.declared.Fluids.{Fluids}
-use Rattle.wellformed.specs.Limits.{WellFormed, checkedLent}
+use Rattle.wellformed.specs.Inner.{WellFormed}
+use Rattle.wellformed.specs.Limits.{checkedLent}
 use Rattle.wellformed.proofs.LimitsLaws.{checked-stands, lent-reached, lent-stands}
 use Rattle.report.specs.Reports.{noReport, reportOfCase, telling}
 use Rattle.balance.specs.Balance.{balancesOf}
@@ -30,10 +32,10 @@ use Rattle.verdict.specs.Places.{countedBy, placesOf}
 use Rattle.verdict.specs.Ruling.{blockNumber, byBalance, codeOf, concerning, countOf, firstPlace, noVerdict, verdictBy, verdictOf}
 use Rattle.verdict.proofs.PlacesLaws.{fluid-below}
 use Rattle.budget.specs.Answers.{marksReach, refusing, zoneOfCase}
-use Rattle.casefile.specs.Reading.{Read, readingOf}
+use Rattle.casefile.specs.Reading.{Read, readingOf, refusing as unread}
 use Rattle.casefile.proofs.CasefileTheorems.{read-passes}
-use Rattle.crossing.specs.Crossing.{Small, caseIn, checkHanded, gridOf, readHanded, reportHanded, short, tableHanded, tableReaches, verdictHanded}
-use Rattle.casefile.specs.Reading.{refusing as unread}
+use Rattle.crossing.specs.Inner.{Small, tableReaches}
+use Rattle.crossing.specs.Crossing.{caseIn, checkHanded, gridOf, readHanded, reportHanded, short, tableHanded, verdictHanded}
 
 -- ---- a case that is handed over
 module _ (row columns rows slots : List ℤ) where
@@ -54,9 +56,7 @@ module _ (row columns rows slots : List ℤ) where
       where
         go : (b : Bool) → leb recordNumbers (length row) ≡ b → cond b (checkedLent (caseIn row columns rows slots) reaches) short .number ≡ 0
             → (recordNumbers ≤ length row) × (WellFormed (caseIn row columns rows slots) × T reaches)
-        go true p e =
-            let h = lent-stands (caseIn row columns rows slots) reaches e in
-            (leb-true recordNumbers (length row) p, (checked-stands (caseIn row columns rows slots) (h .0), h .1))
+        go true p e = (leb-true recordNumbers (length row) p, lent-stands (caseIn row columns rows slots) reaches e)
         go false p e = absurd (omega (arith, e))
 
   -- the marks are measured where the record is there and its counts are in range

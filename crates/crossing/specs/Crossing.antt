@@ -1,7 +1,7 @@
 -- What crosses to other languages, as numbers and slices. Document 01 decides each answer; here stands how it is handed over.
 use mathlib.Core.Bool.{Bool, _&&_, cond}
 use mathlib.Core.List.{List, [], _∷_}
-use Prim.Native.Nat.{_≤_, ℕ}
+use Prim.Native.Nat.{ℕ}
 use lib.Dec.{leb}
 use lib.Ieee.{Float}
 use lib.IntN.{natAbs, pos, ℤ}
@@ -9,10 +9,9 @@ use lib.ListN.{getD, length}
 use lib.Signed.{ltZ}
 use Rattle.whole.specs.Lent.{over}
 use Rattle.grid.specs.declared.Grid.{Grid}
-use Rattle.grid.specs.Record.{recordNumbers}
-use Rattle.grid.specs.Units.{mostBlocks}
+use Rattle.grid.specs.Record.{recordNumbers, recordOf}
 use Rattle.slices.specs.declared.Refusal.{Refusal}
-use Rattle.slices.specs.Slices.{Case, caseOf, reachesOver, refusal, unlessRefused}
+use Rattle.slices.specs.Slices.{Case, caseOf, refusal, unlessRefused}
 use Rattle.wellformed.specs.Limits.{checkedLent}
 use Rattle.report.specs.declared.Answer.{Answer as ReportAnswer}
 use Rattle.report.specs.declared.Report.{Report}
@@ -36,16 +35,10 @@ abbrev pub flagIn : ℤ → ℕ
 flagIn z = cond (ltZ z (pos 0)) 2 (natAbs z)
 
 unfoldable pub gridOf : List ℤ → Grid
-gridOf row =
-    record {
-      columns = countIn (getD row 0 (pos 0));
-      rows = countIn (getD row 1 (pos 0));
-      layers = countIn (getD row 2 (pos 0));
-      delta = getD row 3 (pos 0);
-      flag = flagIn (getD row 4 (pos 0));
-      step = getD row 5 (pos 0);
-      tolerance = getD row 6 (pos 0);
-    }
+gridOf row = recordOf (countIn (at 0)) (countIn (at 1)) (countIn (at 2)) (at 3) (flagIn (at 4)) (at 5) (at 6)
+  where
+    at : ℕ → ℤ
+    at place = getD row place (pos 0)
 
 abbrev pub numbersOfGrid : Grid → List ℤ
 numbersOfGrid g = pos (g .columns) ∷ pos (g .rows) ∷ pos (g .layers) ∷ g .delta ∷ pos (g .flag) ∷ g .step ∷ g .tolerance ∷ []
@@ -55,12 +48,6 @@ numbersOfGrid g = pos (g .columns) ∷ pos (g .rows) ∷ pos (g .layers) ∷ g .
 -- "the code, the first block concerned .., how many places fail .., and the largest balance without sign"
 abbrev pub numbersOfVerdict : Verdict → List ℤ
 numbersOfVerdict v = pos (v .code) ∷ pos (v .block) ∷ pos (v .count) ∷ v .largest ∷ []
-
--- code, block and count of a verdict on a grid, which are small enough to cross
-pub record Small (v : Verdict) : Type 0 where
-  pub code : v .code ≤ 24
-  pub block : v .block ≤ mostBlocks
-  pub count : v .count ≤ 1024
 
 -- "both heads, interface and both thicknesses in metres"
 abbrev pub doublesOf : Report → List Float
@@ -88,10 +75,6 @@ checkHanded row columns rows slots reaches = cond (leb recordNumbers (length row
 -- the verdict, over four numbers
 unfoldable pub verdictHanded : List ℤ → List ℤ → List ℤ → List ℤ → ℕ → VerdictAnswer
 verdictHanded row columns rows slots room = answered (checkHanded row columns rows slots (leb 4 room)) (verdictOf (caseIn row columns rows slots))
-
--- what is lent for a table is long enough, and the marks too; asked of a record that is there
-unfoldable pub tableReaches : List ℤ → ℕ → ℕ → Bool
-tableReaches row marks room = leb recordNumbers (length row) && (leb 18 room && reachesOver (gridOf row) 1 marks)
 
 -- the table of a zone, over eighteen: "then, for a table, 11 before 13"
 unfoldable pub tableHanded : List ℤ → List ℤ → List ℤ → List ℤ → List ℤ → ℕ → TableAnswer

@@ -1,13 +1,8 @@
 // What is answered for a case that is handed over, as a record and slices, before it goes over the front of what is lent for it.
 ghost use mathlib.Core.Path.{_≡_};
 ghost use lib.ListN.{length};
-ghost use Rattle.crossing.specs.Crossing.{
-  checkHanded,
-  tableReaches,
-  verdictHanded,
-  tableHanded,
-  reportHanded,
-};
+ghost use Rattle.crossing.specs.Crossing.{checkHanded, verdictHanded, tableHanded, reportHanded};
+ghost use Rattle.crossing.specs.Inner.{tableReaches};
 use super::REPORT;
 use super::TABLE;
 use super::VERDICT;

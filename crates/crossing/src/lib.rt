@@ -6,19 +6,10 @@ ghost use mathlib.Core.Path.{_≡_};
 ghost use Prim.Native.Nat.{_≤_};
 ghost use lib.ListN.{length};
 ghost use Rattle.whole.specs.Lent.{over};
-ghost use Rattle.grid.specs.Judging.{Termed};
-ghost use Rattle.grid.specs.Place.{Counted};
+ghost use Rattle.grid.specs.Inner.{Counted, Termed};
 ghost use Rattle.grid.specs.Record.{recordNumbers};
-ghost use Rattle.crossing.specs.Crossing.{
-  Small,
-  countIn,
-  flagIn,
-  gridOf,
-  numbersOfGrid,
-  numbersOfVerdict,
-  doublesOf,
-  handed,
-};
+ghost use Rattle.crossing.specs.Inner.{Small};
+ghost use Rattle.crossing.specs.Crossing.{countIn, flagIn, gridOf, numbersOfGrid, numbersOfVerdict, doublesOf, handed};
 use grid::Grid;
 use grid::RECORD_NUMBERS;
 use report::Report;

@@ -16,7 +16,7 @@ use Rattle.whole.specs.Lent.{over}
 use Rattle.whole.proofs.LentLaws.{over-rest, rest-all, rest-put}
 use Rattle.whole.specs.declared.ranges.Range.{Range}
 use Rattle.whole.specs.Ranges.{inRange}
-use Rattle.whole.specs.Whole.{In}
+use Rattle.whole.specs.Inner.{In}
 use Rattle.whole.proofs.SearchLaws.{holds}
 use Rattle.whole.proofs.WithinLaws.{range-in}
 use Rattle.numbers.specs.declared.Number.{Number}
@@ -35,7 +35,8 @@ use Rattle.fields.specs.declared.Part.{Part}
 use Rattle.fields.specs.declared.Part.the-variants.{Counts, Slots, Terms, Widths}
 use Rattle.fields.specs.declared.runs.Run.{Run}
 use Rattle.fields.specs.declared.runs.Run.the-variants.{Done, Refused}
-use Rattle.fields.specs.Fields.{Within, endsOf, fieldAt, isSent, judgedIn, meantOf, numberJudged, partRefusal}
+use Rattle.fields.specs.Inner.{Within}
+use Rattle.fields.specs.Fields.{endsOf, fieldAt, isSent, judgedIn, meantOf, numberJudged, partRefusal}
 use Rattle.fields.specs.Runs.{Filled, blockFrom, blocksFrom, endingOf, fillFrom, fillOf, onward, ruled}
 use Rattle.fields.specs.declared.Got.the-variants as got
 use Rattle.numbers.specs.declared.Number.the-variants as number

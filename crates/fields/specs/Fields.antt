@@ -1,8 +1,8 @@
 -- The numbers that a case file sends, one at a time (document 01, "The case file" and "Refusal numbers").
 use mathlib.Core.Bool.{Bool, _&&_, cond, false, true}
 use mathlib.Core.List.{List, [], _∷_}
-use Prim.Native.Nat.{_+_, _<_, ℕ}
-use lib.Dec.{T, eqb, leb}
+use Prim.Native.Nat.{_+_, ℕ}
+use lib.Dec.{eqb, leb}
 use lib.IntN.{pos, ℤ}
 use lib.ListN.{getD, length}
 use lib.Signed.{ltZ}
@@ -49,7 +49,8 @@ abbrev pub isBoundarySlot : ℕ → Bool
 isBoundarySlot slot = leb 10 slot && leb slot 11
 
 -- "then per block K alone if 0, otherwise its slots in order, the two boundary slots only for kinds 1 and 2": whether the next slot of a block is sent, after
--- the slots so far
+-- the slots so far. Of these `slotsAt` is asked for K, which stands first, and for the kind, which stands before the boundary slots; slots that are yet to come
+-- count as 0 there, and are not asked for
 unfoldable pub slotSent : List ℤ → Bool
 slotSent done =
     cond (eqb (length done) 0) true
@@ -96,7 +97,3 @@ numberJudged (number.Value n next) ends r = judgedIn (meantOf (ends .lower) n) n
 -- the next number of a part, from a place, after those so far; one that is not sent is 0
 unfoldable pub fieldAt : Part → List ℕ → ℕ → List ℤ → Got
 fieldAt part file at done = cond (isSent part done) (numberJudged (numberAt file at) (endsOf part (length done)) (partRefusal part)) (Value (pos 0) at)
-
--- ---- what is required of numbers that were read: each of the first n within its ends
-abbrev pub Within : Part → ℕ → List ℤ → Type 0
-Within part n values = (k : ℕ) → k < n → T (inRange (endsOf part k) (getD values k (pos 0)))

@@ -5,19 +5,7 @@ ghost use mathlib.Core.Path.{_≡_};
 ghost use Prim.Native.Nat.{_≤_, _<_, _^_};
 ghost use lib.ListN.{length};
 ghost use Rattle.numbers.specs.Numbers.{numberAt};
-ghost use Rattle.fields.specs.Fields.{
-  mostSlots,
-  recordRange,
-  isBoundarySlot,
-  slotSent,
-  isSent,
-  endsOf,
-  partRefusal,
-  meantOf,
-  judgedIn,
-  numberJudged,
-  fieldAt,
-};
+ghost use Rattle.fields.specs.Fields.{mostSlots, recordRange, isBoundarySlot, slotSent, isSent, endsOf, partRefusal, meantOf, judgedIn, numberJudged, fieldAt};
 use grid::COUNTS;
 use grid::RECORD_NUMBERS;
 use grid::units::MOST_ACROSS;

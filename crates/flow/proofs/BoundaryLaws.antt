@@ -5,26 +5,27 @@ use lib.Dec.{eqb}
 use lib.IntN.{_-ℤ_, pos, ℤ}
 use lib.Signed.{_≤ℤ_, leZ}
 use Rattle.whole.specs.Sum.{only}
-use Rattle.whole.specs.Whole.{Abs, In}
+use Rattle.whole.specs.Inner.{Abs, In}
 use Rattle.whole.proofs.RangeLaws.{leaf, ranges, within}
 use Rattle.whole.proofs.SumLaws.{only-abs}
 use Rattle.grid.specs.declared.Grid.{Grid}
-use Rattle.grid.specs.Judging.{Termed}
+use Rattle.grid.specs.Inner.{Termed}
 use Rattle.slots.specs.declared.Block.{Block}
 use Rattle.slots.specs.Rules.{isOpen}
-use Rattle.slots.specs.Slots.{Ends}
+use Rattle.slots.specs.Inner.{Ends}
 use Rattle.slots.specs.Units.{mostLevel}
 use Rattle.block.specs.declared.Fluids.{Fluids}
 use Rattle.block.specs.Density.{seaHeadOf}
 use Rattle.block.specs.Fluids.{fresh, newHeads}
 use Rattle.block.specs.Geometry.{aquiferTopOf}
-use Rattle.block.specs.Units.{mostArea}
+use Rattle.block.specs.Inner.{mostArea}
 use Rattle.block.proofs.BlockLaws.{aquifer-top-in}
 use Rattle.block.proofs.DensityLaws.{sea-head-in}
 use Rattle.block.proofs.FluidLaws.{new-heads-in}
 use Rattle.flow.specs.Boundary.{belowTop, boundaryHeadOf, boundaryOf, exchangeOf, gainOf, rechargeOf}
 use Rattle.flow.specs.Leakage.{freshHeadOf, uppermostOf}
-use Rattle.flow.specs.Litres.{mostConductance, mostDifference, mostFlow, mostOverArea, overAreaOf}
+use Rattle.flow.specs.Litres.{mostConductance, overAreaOf}
+use Rattle.flow.specs.Inner.{mostDifference, mostFlow, mostOverArea}
 use Rattle.flow.proofs.LeakageLaws.{fresh-head-in}
 use Rattle.flow.proofs.LitresLaws.{litres-in, over-area-in}
 

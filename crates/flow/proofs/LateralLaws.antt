@@ -5,19 +5,22 @@ use mathlib.Core.Path.{_≡_, subst}
 use native.Mathlib.Omega.{arith}
 use lib.IntN.{_*ℤ_, _+ℤ_, _-ℤ_, pos, ℤ}
 use lib.Signed.{_≤ℤ_, leZ-yes, ltZ, ≤ℤ-refl}
-use Rattle.whole.specs.Whole.{Abs, In, floorOf, maxℤ}
+use Rattle.whole.specs.Inner.{Abs, In}
+use Rattle.whole.specs.Whole.{floorOf, maxℤ}
 use Rattle.whole.proofs.DivisionLaws.{floor-mono, floor-≤, floor-≥}
 use Rattle.whole.proofs.LinearLaws.{#, from1, from2, signed}
 use Rattle.whole.proofs.OrderLaws.{maxℤ-l, maxℤ-r, maxℤ-≤, mul-mono, mul-nonneg, ≤ℤ-trans}
 use Rattle.whole.proofs.RangeLaws.{no-less, ranges, within}
 use Rattle.whole.proofs.RingLaws.{polynomials, ring}
 use Rattle.slots.specs.Units.{mostThickness}
-use Rattle.block.specs.Units.{mostFluidK, ticks}
+use Rattle.block.specs.Inner.{mostFluidK}
+use Rattle.block.specs.Units.{ticks}
 use Rattle.flow.specs.declared.lateral.Behind.{Behind}
 use Rattle.flow.specs.declared.lateral.Face.{Face}
 use Rattle.flow.specs.declared.lateral.Side.{Side}
-use Rattle.flow.specs.Lateral.{BehindIn, FaceIn, SideIn, conductanceOf, faceConductanceOf, faceKOf, faceThicknessOf, lateralOf, tipOf}
-use Rattle.flow.specs.Litres.{litresOf, mostConductance, mostFlow}
+use Rattle.flow.specs.Inner.{BehindIn, FaceIn, SideIn, mostFlow}
+use Rattle.flow.specs.Lateral.{conductanceOf, faceConductanceOf, faceKOf, faceThicknessOf, lateralOf, tipOf}
+use Rattle.flow.specs.Litres.{litresOf, mostConductance}
 use Rattle.flow.proofs.LitresLaws.{leaving-in, litres-in}
 
 -- ---- face conductivity

@@ -4,18 +4,19 @@ use native.Mathlib.Omega.{arith}
 use lib.IntN.{pos, ℤ}
 use lib.Signed.{ltZ}
 use borrow.Author.Tests.{ne-eqb}
-use Rattle.whole.specs.Whole.{Abs, In}
+use Rattle.whole.specs.Inner.{Abs, In}
 use Rattle.whole.proofs.RangeLaws.{leaf, ranges, within}
 use Rattle.whole.proofs.SearchLaws.{cond-both}
 use Rattle.grid.specs.declared.Grid.{Grid}
-use Rattle.grid.specs.Judging.{Termed}
+use Rattle.grid.specs.Inner.{Termed}
 use Rattle.block.specs.declared.Fluids.{Fluids}
-use Rattle.block.specs.Fluids.{Heads, fresh, salt, togetherOf}
-use Rattle.block.specs.Units.{Level, mostEquivalent}
+use Rattle.block.specs.Inner.{Heads, Level, mostEquivalent}
+use Rattle.block.specs.Fluids.{fresh, salt, togetherOf}
 use Rattle.block.proofs.DensityLaws.{equivalent-in}
 use Rattle.flow.specs.declared.leakage.LeakageSide.{LeakageSide}
-use Rattle.flow.specs.Leakage.{LeakageSideIn, differenceOf, freshHeadOf, leakageOf, lowermostOf, uppermostOf}
-use Rattle.flow.specs.Litres.{litresOf, mostConductance, mostDifference, mostFlow}
+use Rattle.flow.specs.Inner.{LeakageSideIn, mostDifference, mostFlow}
+use Rattle.flow.specs.Leakage.{differenceOf, freshHeadOf, leakageOf, lowermostOf, uppermostOf}
+use Rattle.flow.specs.Litres.{litresOf, mostConductance}
 use Rattle.flow.proofs.LitresLaws.{leaving-in, litres-in}
 
 -- a named fluid is fresh or salt

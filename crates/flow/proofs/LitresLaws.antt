@@ -5,13 +5,16 @@ use Prim.Native.Nat.{ℕ}
 use native.Mathlib.Omega.{arith}
 use lib.IntN.{_*ℤ_, negℤ, pos, ℤ}
 use lib.Signed.{ltZ}
-use Rattle.whole.specs.Whole.{Abs, In, cutOf}
+use Rattle.whole.specs.Inner.{Abs, In}
+use Rattle.whole.specs.Whole.{cutOf}
 use Rattle.whole.proofs.DivisionLaws.{cut-neg}
 use Rattle.whole.proofs.LinearLaws.{#, linear, signed}
 use Rattle.whole.proofs.RangeLaws.{ranges, within}
 use Rattle.whole.proofs.SumLaws.{only-abs}
-use Rattle.block.specs.Units.{mostArea, ticks}
-use Rattle.flow.specs.Litres.{leavingOf, litresOf, mostConductance, mostDifference, mostFlow, mostOverArea, mostRate, overAreaOf}
+use Rattle.block.specs.Inner.{mostArea}
+use Rattle.block.specs.Units.{ticks}
+use Rattle.flow.specs.Litres.{leavingOf, litresOf, mostConductance, overAreaOf}
+use Rattle.flow.specs.Inner.{mostDifference, mostFlow, mostOverArea, mostRate}
 
 pub litres-neg : (c d : ℤ) → litresOf c (negℤ d) ≡ negℤ (litresOf c d)
 unfolding litresOf

@@ -23,7 +23,8 @@ belowTop g b top = hasWaterTable g top && ltZ (b .«new_fresh») (aquiferTopOf b
 unfoldable pub rechargeOf : Grid → Block → Bool → ℤ → ℕ → ℤ
 rechargeOf g b top area fluid = only (eqb fluid fresh && belowTop g b top) (overAreaOf (b .recharge) area)
 
--- "The boundary head is the stage; for a sea it is the depth (minus the sea floor's level) divided by δ, with floor."
+-- "The boundary head is the stage; for a sea it is the depth (minus the sea floor's level) divided by δ, with floor." It is asked of rivers and seas alone, kinds
+-- 1 and 2, so that a kind of at most 1 is a river.
 unfoldable pub boundaryHeadOf : Grid → Block → ℤ
 boundaryHeadOf g b = cond (leZ (b .kind) (pos 1)) (b .level) (seaHeadOf g (b .level))
 

@@ -3,10 +3,8 @@
 use mathlib.Core.Bool.{cond}
 use lib.IntN.{_*ℤ_, _+ℤ_, _-ℤ_, pos, ℤ}
 use lib.Signed.{ltZ}
-use Rattle.whole.specs.Whole.{Abs, In, floorOf, maxℤ}
-use Rattle.slots.specs.Units.{mostLevel, mostThickness}
-use Rattle.slices.specs.Slices.{mostWidth}
-use Rattle.block.specs.Units.{mostFluidK, ticks}
+use Rattle.whole.specs.Whole.{floorOf, maxℤ}
+use Rattle.block.specs.Units.{ticks}
 use Rattle.flow.specs.declared.lateral.Behind.{Behind}
 use Rattle.flow.specs.declared.lateral.Face.{Face}
 use Rattle.flow.specs.declared.lateral.Side.{Side}
@@ -39,23 +37,3 @@ faceConductanceOf f a b p = conductanceOf f (faceKOf f (a .k) (b .k)) (faceThick
 -- "Flow = cut(C·(difference of that fluid's heads)/4,096) litres/day." "No flow leaves the block without the fluid."
 unfoldable pub lateralOf : Face → Side → Side → Behind → ℤ
 lateralOf f a b p = leavingOf (a .thickness) (b .thickness) (litresOf (faceConductanceOf f a b p) (a .head -ℤ b .head))
-
--- ---- what is required of a face
-
--- a column or row width, metres
-abbrev pub Width : ℤ → Type 0
-Width z = In (pos 1) (pos mostWidth) z
-
-pub record FaceIn (f : Face) : Type 0 where
-  pub low : Width (f .low)
-  pub high : Width (f .high)
-  pub across : Width (f .across)
-
-pub record SideIn (s : Side) : Type 0 where
-  pub k : In (pos 1) (pos mostFluidK) (s .k)
-  pub thickness : In (pos 0) (pos mostThickness) (s .thickness)
-  pub head : Abs mostLevel (s .head)
-
-pub record BehindIn (p : Behind) : Type 0 where
-  pub width : In (pos 0) (pos mostWidth) (p .width)
-  pub thickness : In (pos 0) (pos mostThickness) (p .thickness)

@@ -8,7 +8,7 @@ use lib.Signed.{ltZ}
 use Rattle.grid.specs.declared.Grid.{Grid}
 use Rattle.block.specs.declared.Fluids.{Fluids}
 use Rattle.block.specs.Density.{freshEquivalentOf}
-use Rattle.block.specs.Fluids.{Heads, Thick, fresh, inFluid, salt, togetherOf}
+use Rattle.block.specs.Fluids.{fresh, inFluid, salt, togetherOf}
 use Rattle.flow.specs.declared.leakage.LeakageSide.{LeakageSide}
 use Rattle.flow.specs.Litres.{leavingOf, litresOf}
 
@@ -37,8 +37,3 @@ unfoldable pub leakageOf : Grid → ℤ → LeakageSide → LeakageSide → ℤ 
 leakageOf g conductance lower upper level =
     leavingOf (togetherOf (lower .thickness)) (togetherOf (upper .thickness))
     (litresOf conductance (differenceOf g (lower .heads) (upper .heads) (uppermostOf (lower .thickness)) (lowermostOf (upper .thickness)) level))
-
--- what is required of a block that leaks
-pub record LeakageSideIn (w : LeakageSide) : Type 0 where
-  pub heads : Heads (w .heads)
-  pub thickness : Thick (w .thickness)

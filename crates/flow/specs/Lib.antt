@@ -3,3 +3,4 @@ pub mod Litres
 pub mod Lateral
 pub mod Leakage
 pub mod Boundary
+pub mod Inner

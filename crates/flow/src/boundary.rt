@@ -2,11 +2,10 @@
 ghost use mathlib.Core.Path.{_≡_};
 ghost use lib.IntN.{pos};
 ghost use lib.Signed.{_≤ℤ_};
-ghost use Rattle.whole.specs.Whole.{In};
-ghost use Rattle.grid.specs.Judging.{Termed};
-ghost use Rattle.slots.specs.Slots.{Ends};
-ghost use Rattle.block.specs.Units.{mostArea};
-ghost use Rattle.block.specs.Fluids.{Thick};
+ghost use Rattle.whole.specs.Inner.{In};
+ghost use Rattle.grid.specs.Inner.{Termed};
+ghost use Rattle.slots.specs.Inner.{Ends};
+ghost use Rattle.block.specs.Inner.{Thick, mostArea};
 ghost use Rattle.flow.specs.Litres.{mostConductance, overAreaOf};
 ghost use Rattle.flow.specs.Boundary.{belowTop, rechargeOf, boundaryHeadOf, exchangeOf, gainOf, boundaryOf};
 use super::leakage::fresh_head;

@@ -2,22 +2,12 @@
 ghost use mathlib.Core.Path.{_≡_};
 ghost use lib.IntN.{pos};
 ghost use lib.Signed.{_≤ℤ_};
-ghost use Rattle.whole.specs.Whole.{In};
+ghost use Rattle.whole.specs.Inner.{In};
 ghost use Rattle.slots.specs.Units.{mostThickness};
-ghost use Rattle.block.specs.Units.{mostFluidK};
+ghost use Rattle.block.specs.Inner.{mostFluidK};
 ghost use Rattle.flow.specs.Litres.{mostConductance};
-ghost use Rattle.flow.specs.Lateral.{
-  faceKOf,
-  conductanceOf,
-  tipOf,
-  faceThicknessOf,
-  faceConductanceOf,
-  lateralOf,
-  Width,
-  FaceIn,
-  SideIn,
-  BehindIn,
-};
+ghost use Rattle.flow.specs.Lateral.{faceKOf, conductanceOf, tipOf, faceThicknessOf, faceConductanceOf, lateralOf};
+ghost use Rattle.flow.specs.Inner.{Width, FaceIn, SideIn, BehindIn};
 use super::litres::leaving;
 use super::litres::litres;
 use block::units::TICKS;

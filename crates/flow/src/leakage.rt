@@ -2,12 +2,13 @@
 ghost use mathlib.Core.Path.{_≡_};
 ghost use Prim.Native.Nat.{_≤_};
 ghost use lib.IntN.{pos};
-ghost use Rattle.whole.specs.Whole.{In};
-ghost use Rattle.grid.specs.Judging.{Termed};
-ghost use Rattle.block.specs.Units.{Level};
-ghost use Rattle.block.specs.Fluids.{salt, Heads, Thick};
+ghost use Rattle.whole.specs.Inner.{In};
+ghost use Rattle.grid.specs.Inner.{Termed};
+ghost use Rattle.block.specs.Inner.{Heads, Level, Thick};
+ghost use Rattle.block.specs.Fluids.{salt};
 ghost use Rattle.flow.specs.Litres.{mostConductance};
-ghost use Rattle.flow.specs.Leakage.{uppermostOf, lowermostOf, freshHeadOf, differenceOf, leakageOf, LeakageSideIn};
+ghost use Rattle.flow.specs.Leakage.{uppermostOf, lowermostOf, freshHeadOf, differenceOf, leakageOf};
+ghost use Rattle.flow.specs.Inner.{LeakageSideIn};
 use super::litres::leaving;
 use super::litres::litres;
 use block::Fluids;

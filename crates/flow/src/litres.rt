@@ -2,9 +2,10 @@
 // between two blocks through `leaving`.
 ghost use mathlib.Core.Path.{_≡_};
 ghost use lib.IntN.{pos};
-ghost use Rattle.whole.specs.Whole.{In, Abs};
-ghost use Rattle.block.specs.Units.{mostArea};
-ghost use Rattle.flow.specs.Litres.{litresOf, leavingOf, overAreaOf, mostConductance, mostDifference, mostRate};
+ghost use Rattle.whole.specs.Inner.{In, Abs};
+ghost use Rattle.block.specs.Inner.{mostArea};
+ghost use Rattle.flow.specs.Litres.{litresOf, leavingOf, overAreaOf, mostConductance};
+ghost use Rattle.flow.specs.Inner.{mostDifference, mostRate};
 use block::units::TICKS;
 use whole::cut_div;
 use whole::floor_div;

@@ -8,8 +8,9 @@ use Rattle.whole.proofs.SearchLaws.{both, holds, joint}
 use Rattle.whole.proofs.WithinLaws.{range-in, in-ranged}
 use Rattle.grid.specs.declared.Grid.{Grid}
 use Rattle.grid.specs.Units.{mostAcross, mostLayers, mostBlocks, mostDelta, mostStep, mostTolerance}
-use Rattle.grid.specs.Place.{blocksOf, Counted}
-use Rattle.grid.specs.Judging.{countWithin, countsHold, termsHold, Termed}
+use Rattle.grid.specs.Place.{blocksOf}
+use Rattle.grid.specs.Inner.{Counted, Termed}
+use Rattle.grid.specs.Judging.{countWithin, countsHold, termsHold}
 
 pub within-count : (n most : ℕ) → T (countWithin n most) → (1 ≤ n) × (n ≤ most)
 within-count n most t = let h = both (leb 1 n) (leb n most) t in (leb→le 1 n (h .0), leb→le n most (h .1))

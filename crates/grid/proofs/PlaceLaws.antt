@@ -1,8 +1,8 @@
--- Laws of places and links: block and place determine each other, a link's two ends are inside, a block's neighbours are those across its own three links and
--- the three that end in it, and what a link that ends in a block brings is what the link behind it does.
+-- Laws of places and links: block and place determine each other, a link's two ends are inside, a link joins two blocks that touch and two that touch are
+-- joined, and what a link that ends in a block brings is what the link behind it does.
 -- Assumes nothing.
 use mathlib.Core.Bool.{Bool, _&&_, false, not, true}
-use mathlib.Core.Logic.{_↔_, _⊎_, inl, inr}
+use mathlib.Core.Logic.{_↔_}
 use mathlib.Core.Path.{_∙_, _≡_, ap, refl, subst, sym}
 use Prim.Native.Nat.{_%_, _*_, _+_, _-_, _/_, _<_, _≤_, suc, zero, ℕ}
 use native.Mathlib.Decide.{ℕ-discrete}
@@ -17,8 +17,10 @@ use Rattle.whole.proofs.SearchLaws.{both, holds, joint, same-test}
 use Rattle.whole.proofs.SumLaws.{only-and}
 use Rattle.grid.specs.declared.Grid.{Grid}
 use Rattle.grid.specs.declared.place.Place.{Place}
-use Rattle.grid.specs.declared.place.Neighbour.the-variants.{At}
-use Rattle.grid.specs.Place.{Beside, Counted, Inside, behindOf, blockAt, blocksOf, coordinateOf, earlierOf, extentOf, hasNext, hasPrevious, neighbourOf, nextOf, placeOf, previousOf, strideOf, there, topOf}
+use Rattle.grid.specs.declared.place.Neighbour.the-variants.{At, Outside}
+use Rattle.grid.specs.Meaning.{Beside}
+use Rattle.grid.specs.Inner.{Counted, Inside, blockAt, earlierOf}
+use Rattle.grid.specs.Place.{behindOf, blocksOf, coordinateOf, extentOf, hasNext, hasPrevious, neighbourOf, nextOf, placeOf, previousOf, strideOf, there, topOf}
 use Rattle.grid.specs.Units.{above}
 
 -- an axis that is neither 0 nor 1 leads above
@@ -195,19 +197,20 @@ module _ (g : Grid) (counted : Counted g) (d i : ℕ) (l : i < blocksOf g) where
       let e : i - strideOf g d + strideOf g d ≡ i = omega arith in
       subst (λ (k : ℕ). T (hasPrevious (placeOf g k) d)) e (rw (next-place g counted d (i - strideOf g d) (omega arith) t) (moved-has (placeOf g (i - strideOf g d)) d))
 
+-- what is there, and what is not
+pub there-at : (b : Bool) (i p : ℕ) → (there b i ≡ At p) ↔ (T b × (p ≡ i))
+there-at true i p = (λ e. (tt, cc), λ h. ap At (sym (h .1)))
+there-at false i p = (λ e. let z : _≡_ {A = ℕ} 0 1 = cc in absurd (omega arith), λ h. absurd (h .0))
+
+pub there-outside : (b : Bool) (i : ℕ) → (there b i ≡ Outside) ↔ (b ≡ false)
+there-outside true i = (λ e. let z : _≡_ {A = ℕ} 0 1 = cc in absurd (omega arith), λ e. let z : _≡_ {A = ℕ} 0 1 = cc in absurd (omega arith))
+there-outside false i = (λ e. refl, λ e. refl)
+
 -- the block across a link, and so the block behind one, is inside
 pub across-inside : (g : Grid) → Counted g → (d i p : ℕ) (on : Bool) → i < blocksOf g → neighbourOf g d i on ≡ At p → p < blocksOf g
 unfolding neighbourOf
-across-inside g counted d i p true l e = go (nextOf g d i) (λ t. next-inside g counted d i l t) e
-  where
-    go : (b : Bool) → (T b → i + strideOf g d < blocksOf g) → there b (i + strideOf g d) ≡ At p → p < blocksOf g
-    go true h e = let same : i + strideOf g d ≡ p = cc in rw (← same) (h tt)
-    go false h e = let z : _≡_ {A = ℕ} 0 1 = cc in absurd (omega arith)
-across-inside g counted d i p false l e = go (previousOf g d i) e
-  where
-    go : (b : Bool) → there b (i - strideOf g d) ≡ At p → p < blocksOf g
-    go true e = let same : i - strideOf g d ≡ p = cc in omega arith
-    go false e = let z : _≡_ {A = ℕ} 0 1 = cc in absurd (omega arith)
+across-inside g counted d i p true l e = let h = there-at (nextOf g d i) (i + strideOf g d) p .0 e in rw (h .1) (next-inside g counted d i l (h .0))
+across-inside g counted d i p false l e = omega (arith, there-at (previousOf g d i) (i - strideOf g d) p .0 e .1)
 
 pub behind-inside : (g : Grid) → Counted g → (d i p : ℕ) (low : Bool) → i + strideOf g d < blocksOf g → behindOf g d i low ≡ At p → p < blocksOf g
 unfolding behindOf
@@ -234,6 +237,11 @@ moved-alike p (suc (suc d)) zero k l n = refl
 moved-alike p (suc (suc d)) (suc zero) k l n = refl
 moved-alike p (suc (suc d)) (suc (suc e)) k l n = absurd (n (omega arith))
 
+pub coordinate-inside : (g : Grid) (p : Place) (d : ℕ) → Inside g p → coordinateOf p d < extentOf g d
+coordinate-inside g p zero h = h .column
+coordinate-inside g p (suc zero) h = h .row
+coordinate-inside g p (suc (suc d)) h = h .layer
+
 -- a place is its three coordinates
 place-same : (p q : Place) → ((e : ℕ) → e < 3 → coordinateOf p e ≡ coordinateOf q e) → p ≡ q
 place-same p q h = λ k. record { column = h 0 (omega arith) k; row = h 1 (omega arith) k; layer = h 2 (omega arith) k }
@@ -259,30 +267,20 @@ module _ (g : Grid) (counted : Counted g) (d i j : ℕ) (axis : d < 3) (l : i < 
   pub beside-link : Beside g d i j → T (nextOf g d i) × (j ≡ i + strideOf g d)
   unfolding nextOf hasNext
   beside-link b = (
-    lt→ltb (coordinateOf (placeOf g i) d + 1) (extentOf g d) (rw (← b .further) (reached (placeOf g j) d (place-inside g counted j m))),
+    lt→ltb (coordinateOf (placeOf g i) d + 1) (extentOf g d) (rw (← b .further) (coordinate-inside g (placeOf g j) d (place-inside g counted j m))),
     sym (block-place g j) ∙ ap (blockAt g) (moves-on b) ∙ next-block g counted d i l,
   )
-    where
-      reached : (p : Place) (d : ℕ) → Inside g p → coordinateOf p d < extentOf g d
-      reached p zero h = h .column
-      reached p (suc zero) h = h .row
-      reached p (suc (suc d)) h = h .layer
 
--- The neighbours of a block are those across its own three links and across the three that end in it, and no others.
-pub neighbours : (g : Grid) → Counted g → (d i j : ℕ) → d < 3 → i < blocksOf g → j < blocksOf g
-    → (Beside g d i j ⊎ Beside g d j i) ↔ ((T (nextOf g d i) × (j ≡ i + strideOf g d)) ⊎ (T (previousOf g d i) × (j ≡ i - strideOf g d)))
-neighbours g counted d i j axis l m = (joined, touching)
-  where
-    joined : Beside g d i j ⊎ Beside g d j i → (T (nextOf g d i) × (j ≡ i + strideOf g d)) ⊎ (T (previousOf g d i) × (j ≡ i - strideOf g d))
-    joined (inl b) = inl (beside-link g counted d i j axis l m b)
-    joined (inr b) =
-        let h = beside-link g counted d j i axis m l b in
-        let e : j ≡ i - strideOf g d = omega (arith, h .1) in
-        inr (next-previous g counted d i l (omega (arith, h .1)) (rw (← e) (h .0)), e)
+-- the same of the link that ends in a block
+module _ (g : Grid) (counted : Counted g) (d i j : ℕ) (axis : d < 3) (l : i < blocksOf g) (m : j < blocksOf g) where
+  pub previous-beside : T (previousOf g d i) → j ≡ i - strideOf g d → Beside g d j i
+  previous-beside t e = link-beside g counted d j i axis m l (rw e (previous-next g counted d i l t)) (omega (arith, e, previous-low g counted d i l t))
 
-    touching : (T (nextOf g d i) × (j ≡ i + strideOf g d)) ⊎ (T (previousOf g d i) × (j ≡ i - strideOf g d)) → Beside g d i j ⊎ Beside g d j i
-    touching (inl h) = inl (link-beside g counted d i j axis l m (h .0) (h .1))
-    touching (inr h) = inr (link-beside g counted d j i axis m l (rw (h .1) (previous-next g counted d i l (h .0))) (omega (arith, h .1, previous-low g counted d i l (h .0))))
+  pub beside-previous : Beside g d j i → T (previousOf g d i) × (j ≡ i - strideOf g d)
+  beside-previous b =
+      let h = beside-link g counted d j i axis m l b in
+      let e : j ≡ i - strideOf g d = omega (arith, h .1) in
+      (next-previous g counted d i l (omega (arith, h .1)) (rw (← e) (h .0)), e)
 
 -- ---- from blocks to links: what a block gets by the link that ends in it, told of the block behind
 pub previous-is : (g : Grid) → Counted g → (d i : ℕ) → i < blocksOf g → (y : ℕ → ℤ)

@@ -1,9 +1,8 @@
 -- What the record of a case is refused with (document 01, "Refusal numbers").
 use mathlib.Core.Bool.{Bool, _&&_}
-use Prim.Native.Nat.{ℕ, _≤_}
+use Prim.Native.Nat.{ℕ}
 use lib.Dec.{leb}
 use lib.IntN.{pos}
-use Rattle.whole.specs.Whole.{In}
 use Rattle.whole.specs.Ranges.{between, inRange}
 use Rattle.grid.specs.declared.Grid.{Grid}
 use Rattle.grid.specs.Units.{mostAcross, mostLayers, mostBlocks, mostDelta, mostStep, mostTolerance}
@@ -22,10 +21,3 @@ unfoldable pub termsHold : Grid → Bool
 termsHold g =
     inRange (between (pos 1) (pos mostDelta)) (g .delta)
     && (leb (g .flag) 1 && (inRange (between (pos 1) (pos mostStep)) (g .step) && inRange (between (pos 0) (pos mostTolerance)) (g .tolerance)))
-
--- what later parts require of the terms, as 4 does not refuse them: δ, flag, step in days, tolerance in litres a day
-pub record Termed (g : Grid) : Type 0 where
-  pub delta : In (pos 1) (pos mostDelta) (g .delta)
-  pub flag : g .flag ≤ 1
-  pub step : In (pos 1) (pos mostStep) (g .step)
-  pub tolerance : In (pos 0) (pos mostTolerance) (g .tolerance)

@@ -3,3 +3,5 @@ pub mod Units
 pub mod Record
 pub mod Place
 pub mod Judging
+pub mod Inner
+pub mod Meaning

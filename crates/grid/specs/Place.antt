@@ -1,41 +1,19 @@
 -- Where a block lies, and its links (document 01, "Units and ranges"). A block is its number less 1.
 use mathlib.Core.Bool.{Bool, false, true}
-use mathlib.Core.Path.{_≡_}
-use Prim.Native.Nat.{_%_, _*_, _+_, _-_, _/_, _<_, _≤_, suc, zero, ℕ}
+use Prim.Native.Nat.{_%_, _*_, _+_, _-_, _/_, suc, zero, ℕ}
 use lib.Dec.{eqb, ltb}
 use Rattle.grid.specs.declared.Grid.{Grid}
 use Rattle.grid.specs.declared.place.Neighbour.{Neighbour}
 use Rattle.grid.specs.declared.place.Place.{Place}
 use Rattle.grid.specs.declared.place.Neighbour.the-variants.{At, Outside}
-use Rattle.grid.specs.Units.{mostAcross, mostBlocks, mostLayers}
 
 -- the block total of a grid
 abbrev pub blocksOf : Grid → ℕ
 blocksOf g = g .columns * g .rows * g .layers
 
--- "columns, rows; layers | 1..=64 each; 1..=8; blocks at most 512"
-pub record Counted (g : Grid) : Type 0 where
-  pub columns-some : 1 ≤ g .columns
-  pub columns-most : g .columns ≤ mostAcross
-  pub rows-some : 1 ≤ g .rows
-  pub rows-most : g .rows ≤ mostAcross
-  pub layers-some : 1 ≤ g .layers
-  pub layers-most : g .layers ≤ mostLayers
-  pub blocks-most : blocksOf g ≤ mostBlocks
-
 -- "Layer 1 is the deepest. Blocks are numbered from 1, by layer, then row, then column."
 unfoldable pub placeOf : Grid → ℕ → Place
 placeOf g i = record { column = i % g .columns; row = i / g .columns % g .rows; layer = i / g .columns / g .rows }
-
--- the block at a place: `placeOf` the other way round
-unfoldable pub blockAt : Grid → Place → ℕ
-blockAt g p = (p .layer * g .rows + p .row) * g .columns + p .column
-
--- a place of the grid
-pub record Inside (g : Grid) (p : Place) : Type 0 where
-  pub column : p .column < g .columns
-  pub row : p .row < g .rows
-  pub layer : p .layer < g .layers
 
 -- the top layer, which document 01 speaks of in "0 in the top layer", is the one with number `layers`
 unfoldable pub topOf : Grid → ℕ → Bool
@@ -68,12 +46,6 @@ hasNext g p d = ltb (coordinateOf p d + 1) (extentOf g d)
 unfoldable pub hasPrevious : Place → ℕ → Bool
 hasPrevious p d = ltb 0 (coordinateOf p d)
 
--- the place one step back along the axis
-abbrev pub earlierOf : Place → ℕ → Place
-earlierOf p zero = record { column = p .column - 1; row = p .row; layer = p .layer }
-earlierOf p (suc zero) = record { column = p .column; row = p .row - 1; layer = p .layer }
-earlierOf p (suc (suc d)) = record { column = p .column; row = p .row; layer = p .layer - 1 }
-
 -- "Neighbours in a row or column of one layer"; "the one directly above": the link (d, i) joins block i, its low side, to block i + stride, its high
 -- side, where that block is there
 unfoldable pub nextOf : Grid → ℕ → ℕ → Bool
@@ -97,8 +69,3 @@ neighbourOf g d i false = there (previousOf g d i) (i - strideOf g d)
 unfoldable pub behindOf : Grid → ℕ → ℕ → Bool → Neighbour
 behindOf g d i true = neighbourOf g d i false
 behindOf g d i false = neighbourOf g d (i + strideOf g d) true
-
--- two blocks that touch, the second one further along the axis: "Neighbours in a row or column of one layer", "the one directly above"
-pub record Beside (g : Grid) (d i j : ℕ) : Type 0 where
-  pub further : coordinateOf (placeOf g j) d ≡ coordinateOf (placeOf g i) d + 1
-  pub alike : (e : ℕ) → e < 3 → (e ≡ d → ⊥) → coordinateOf (placeOf g j) e ≡ coordinateOf (placeOf g i) e

@@ -3,20 +3,8 @@
 ghost use mathlib.Core.Path.{_≡_};
 ghost use mathlib.Core.Bool.{true};
 ghost use Prim.Native.Nat.{_+_, _<_};
-ghost use Rattle.grid.specs.Place.{
-  blocksOf,
-  placeOf,
-  topOf,
-  coordinateOf,
-  extentOf,
-  strideOf,
-  hasNext,
-  hasPrevious,
-  earlierOf,
-  neighbourOf,
-  behindOf,
-  Counted,
-};
+ghost use Rattle.grid.specs.Place.{blocksOf, placeOf, topOf, coordinateOf, extentOf, strideOf, hasNext, hasPrevious, neighbourOf, behindOf};
+ghost use Rattle.grid.specs.Inner.{earlierOf, Counted};
 use super::Grid;
 use super::units::ABOVE;
 

@@ -12,14 +12,14 @@ use lib.IntN.{negℤ, pos, ℤ}
 use lib.Signed.{_<ℤ_, _≤ℤ_}
 use Rattle.whole.specs.declared.ranges.Range.{Range}
 use Rattle.whole.specs.Ranges.{between, inRange}
-use Rattle.whole.specs.Whole.{In}
+use Rattle.whole.specs.Inner.{In}
 use Rattle.whole.proofs.SearchLaws.{holds}
 use Rattle.whole.proofs.WithinLaws.{in-ranged, out-ranged}
 use Rattle.slots.specs.Units.{mostLevel}
 use Rattle.slices.specs.Slices.{none, refusal}
 use Rattle.metres.specs.declared.Taken.{Taken}
 use Rattle.metres.specs.Metres.{isShown, isTaken, metresOf, shown, shownOf, taken, takenOf, tickOf, zeroMetres}
-use Rattle.metres.specs.Patterns.{far, fieldOf}
+use Rattle.metres.specs.Inner.{far, fieldOf}
 use Rattle.metres.proofs.TakenLaws.{passes, taken-by-tick, taken-far, taken-finite}
 
 -- a test of a range q, which is r, where the machine reads the number t back as z

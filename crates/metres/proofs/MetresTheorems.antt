@@ -12,7 +12,7 @@ use lib.Ieee.Scale.{finite}
 use lib.IntN.{natAbs, negℤ, pos, ℤ}
 use lib.Signed.{_<ℤ_, _≤ℤ_}
 use Rattle.whole.specs.Ranges.{between}
-use Rattle.whole.specs.Whole.{Abs, In}
+use Rattle.whole.specs.Inner.{Abs, In}
 use Rattle.whole.proofs.OrderLaws.{≤ℤ-or-<}
 use Rattle.whole.proofs.RangeLaws.{leaf, within}
 use Rattle.whole.proofs.SearchLaws.{one-or-other}

@@ -13,7 +13,7 @@ use lib.Ieee.Fits.{down-pos, round-fits}
 use lib.Ieee.Scale.{finite, round-same}
 use lib.IntN.{natAbs, negsuc, pos, ℤ}
 use lib.Pow.{pow-add, pow-mono, shl-lt}
-use Rattle.whole.specs.Whole.{Abs}
+use Rattle.whole.specs.Inner.{Abs}
 use Rattle.whole.proofs.OrderLaws.{in-abs}
 use Rattle.metres.specs.Meaning.{Shows}
 use Rattle.metres.specs.Metres.{metresOf, mostShown}

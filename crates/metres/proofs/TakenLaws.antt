@@ -27,7 +27,7 @@ use Rattle.whole.proofs.WithinLaws.{out-ranged}
 use Rattle.slots.specs.Units.{mostLevel}
 use Rattle.metres.specs.Meaning.{Shows, negative}
 use Rattle.metres.specs.Metres.{isTaken, signedBy, tickOf, ticksIn}
-use Rattle.metres.specs.Patterns.{digitsOf, far, fieldOf, near}
+use Rattle.metres.specs.Inner.{digitsOf, far, fieldOf, near}
 use Rattle.metres.proofs.ShownLaws.{value-finite}
 
 -- ---- the size by a value

@@ -5,7 +5,7 @@ mod nearest;
 ghost use mathlib.Core.Path.{_≡_};
 ghost use lib.IntN.{pos};
 ghost use lib.Signed.{_≤ℤ_};
-ghost use Rattle.whole.specs.Whole.{Abs};
+ghost use Rattle.whole.specs.Inner.{Abs};
 ghost use Rattle.slots.specs.Units.{mostLevel};
 ghost use Rattle.metres.specs.Metres.{mostShown, metresOf, shownOf, takenOf};
 use nearest::FAR;

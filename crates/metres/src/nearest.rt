@@ -3,7 +3,7 @@ ghost use mathlib.Core.Path.{_≡_};
 ghost use Prim.Native.Nat.{_<_};
 ghost use lib.Ieee.{binary64, ofBits};
 ghost use Rattle.metres.specs.Metres.{tickOf, ticksIn};
-ghost use Rattle.metres.specs.Patterns.{fieldOf, digitsOf, far};
+ghost use Rattle.metres.specs.Inner.{fieldOf, digitsOf, far};
 use whole::nearest::nearest;
 
 // From this exponent's field on a double has 2,048 m, 8,388,608 ticks, or more without sign, or it is infinite or no number.

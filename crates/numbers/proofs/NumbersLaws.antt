@@ -8,7 +8,7 @@ use native.Mathlib.Omega.{arith}
 use lib.IntN.{_-ℤ_, negsuc, pos}
 use lib.ListN.{getD, length}
 use lib.Pow.{pow-add, pow-mono, pow-pos}
-use borrow.Author.Tests.{le-ltb, lt-ltb}
+use borrow.Author.Tests.{le-leb, le-ltb, lt-leb, lt-ltb}
 use Rattle.numbers.specs.declared.Number.the-variants.{Ended, TooLong, Value}
 use Rattle.numbers.specs.Numbers.{numberAt, numberFrom}
 
@@ -21,18 +21,18 @@ module _ (s : List ℕ) (at least w v : ℕ) where
   pub ended : (left : ℕ) → 0 < left → length s ≤ at → numberFrom left least w v s at ≡ Ended
   unfolding numberFrom
   ended zero h e = absurd (omega arith)
-  ended (suc left) h e = simp (le-ltb at (length s) e)
+  ended (suc left) h e = simp (le-leb (length s) at e)
 
   pub long : (left : ℕ) → 0 < left → at < length s → getD s at 0 < 128 → getD s at 0 < least → numberFrom left least w v s at ≡ TooLong
   unfolding numberFrom
   long zero h e b l = absurd (omega arith)
-  long (suc left) h e b l = simp (lt-ltb at (length s) e, lt-ltb (getD s at 0) 128 b, lt-ltb (getD s at 0) least l)
+  long (suc left) h e b l = simp (lt-leb (length s) at e, lt-leb 128 (getD s at 0) b, lt-ltb (getD s at 0) least l)
 
   pub value : (left : ℕ) → 0 < left → at < length s → getD s at 0 < 128 → least ≤ getD s at 0 →
       numberFrom left least w v s at ≡ Value (v + getD s at 0 % 128 * w) (at + 1)
   unfolding numberFrom
   value zero h e b l = absurd (omega arith)
-  value (suc left) h e b l = simp (lt-ltb at (length s) e, lt-ltb (getD s at 0) 128 b, le-ltb (getD s at 0) least l)
+  value (suc left) h e b l = simp (lt-leb (length s) at e, lt-leb 128 (getD s at 0) b, le-ltb (getD s at 0) least l)
 
   pub more : (left : ℕ) → 0 < left → at < length s → 128 ≤ getD s at 0 →
       numberFrom left least w v s at ≡ numberFrom (left - 1) 1 (w * 128) (v + getD s at 0 % 128 * w) s (at + 1)
@@ -40,7 +40,7 @@ module _ (s : List ℕ) (at least w v : ℕ) where
   more zero h e b = absurd (omega arith)
   more (suc left) h e b =
       let p : suc left - 1 ≡ left = omega arith in
-      rw p (simp (lt-ltb at (length s) e, le-ltb (getD s at 0) 128 b))
+      rw p (simp (lt-leb (length s) at e, le-leb 128 (getD s at 0) b))
 
 -- the weight of the next byte, where `left` may still be read
 abbrev pub weightOf : ℕ → ℕ

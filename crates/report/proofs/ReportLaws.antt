@@ -15,8 +15,10 @@ use Rattle.slices.specs.declared.Refusal.{Refusal}
 use Rattle.slices.specs.Slices.{Case, firstRefusal, none, orElse, refusal, unlessRefused}
 use Rattle.slices.proofs.SlicesLaws.{first-goes-on, first-stays}
 use Rattle.wellformed.specs.Limits.{checkedOf, checksOf}
+use Rattle.wellformed.proofs.RoomLaws.{and-same}
 use Rattle.report.specs.declared.Report.{Report}
-use Rattle.report.specs.Reports.{Named, namesActive, naming, noReport, reportAnswer, reportOf, reportOfCase, reportRefusal, telling}
+use Rattle.report.specs.Meaning.{Named}
+use Rattle.report.specs.Reports.{namesActive, naming, noReport, reportAnswer, reportOf, reportOfCase, reportRefusal, telling}
 
 -- ---- which numbers name an active block
 
@@ -38,6 +40,16 @@ module _ (g : Grid) (slots : List ℤ) (number : ℕ) where
 
     pub active-named : number ≤ blocksOf g → isActive (blockOf slots (number - 1)) ≡ namesActive g slots number
     active-named h = sym (ap (λ b. b && isActive (blockOf slots (number - 1))) (le-leb number (blocksOf g) h)) ∙ named-rest
+
+-- it is asked of the blocks that there are
+pub names-same : (g : Grid) (s t : List ℤ) → ((i : ℕ) → i < blocksOf g → blockOf s i ≡ blockOf t i) → (number : ℕ) → namesActive g s number ≡ namesActive g t number
+unfolding namesActive
+names-same g s t blocks number =
+    let most = leb number (blocksOf g) in
+    and-same (leb 1 number) (leb 1 number) (rest g s number) (rest g t number) refl
+    (λ a.
+    and-same most most (isActive (blockOf s (number - 1))) (isActive (blockOf t (number - 1))) refl
+    (λ b. ap isActive (blocks (number - 1) (omega (arith, leb→le 1 number a, leb→le number (blocksOf g) b)))))
 
 -- the test as the theorems say it
 pub named : (c : Case) (number : ℕ) → namesActive (c .grid) (c .slots) number ≡ true → Named c number
@@ -71,9 +83,9 @@ module _ (c : Case) (number : ℕ) where
   own = reportOf (c .grid) (blockOf (c .slots) (number - 1)) (topOf (c .grid) (number - 1))
 
   -- by the number alone
-  pub fourteen : namesActive (c .grid) (c .slots) number ≡ false → telling (refusal 14 number) noReport ≡ reportOfCase c number
+  pub unreported : namesActive (c .grid) (c .slots) number ≡ false → telling (refusal 14 number) noReport ≡ reportOfCase c number
   unfolding reportOfCase
-  fourteen e = rw e
+  unreported e = rw e
 
   pub reported : namesActive (c .grid) (c .slots) number ≡ true → (x : Report) → x ≡ own → telling none x ≡ reportOfCase c number
   unfolding reportOfCase

@@ -1,3 +1,4 @@
 -- The definitions of `report`, for the crates above.
 pub mod Reports
 pub mod WorkedByHand
+pub mod Meaning

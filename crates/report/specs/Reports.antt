@@ -1,8 +1,9 @@
 -- A block's report (document 01, "Metres"), and what it is refused with.
 use mathlib.Core.Bool.{Bool, _&&_, cond}
 use mathlib.Core.List.{List, [], _++_, _∷_}
-use Prim.Native.Nat.{_-_, _≤_, ℕ}
-use lib.Dec.{T, leb}
+use Prim.Native.Nat.{_-_, ℕ}
+use lib.Dec.{leb}
+use lib.Ieee.{Float}
 use lib.IntN.{ℤ}
 use Rattle.grid.specs.declared.Grid.{Grid}
 use Rattle.grid.specs.Place.{blocksOf, topOf}
@@ -19,16 +20,13 @@ use Rattle.wellformed.specs.Limits.{checksOf}
 use Rattle.report.specs.declared.Answer.{Answer}
 use Rattle.report.specs.declared.Report.{Report}
 
--- "both heads, interface and both thicknesses in metres", from ticks
+-- "both heads, interface and both thicknesses in metres"
+abbrev pub inDoubles : Float → Float → Float → Float → Float → Report
+inDoubles a b c d e = record { «fresh_head» = a; «salt_head» = b; interface = c; «fresh_thickness» = d; «salt_thickness» = e }
+
+-- the same, from ticks
 abbrev pub inMetres : Fluids → ℤ → Fluids → Report
-inMetres heads interface waters =
-    record {
-      «fresh_head» = metresOf (heads .fresh);
-      «salt_head» = metresOf (heads .salt);
-      interface = metresOf interface;
-      «fresh_thickness» = metresOf (waters .fresh);
-      «salt_thickness» = metresOf (waters .salt);
-    }
+inMetres heads interface waters = inDoubles (metresOf (heads .fresh)) (metresOf (heads .salt)) (metresOf interface) (metresOf (waters .fresh)) (metresOf (waters .salt))
 
 -- "A block's report gives both heads, interface and both thicknesses in metres, from new heads, the interface being ζ."
 unfoldable pub reportOf : Grid → Block → Bool → Report
@@ -37,10 +35,6 @@ reportOf g b top = inMetres (newHeads b) (interfaceOf g (newHeads b)) (thickness
 -- a number is that of an active block: "Blocks are numbered from 1, by layer, then row, then column."
 unfoldable pub namesActive : Grid → List ℤ → ℕ → Bool
 namesActive g slots number = leb 1 number && (leb number (blocksOf g) && isActive (blockOf slots (number - 1)))
-
--- the same, as the theorems say it
-abbrev pub Named : Case → ℕ → Type 0
-Named c number = (1 ≤ number) × ((number ≤ blocksOf (c .grid)) × T (isActive (blockOf (c .slots) (number - 1))))
 
 -- 14: "a report names no active block"; "14 the number asked for"
 abbrev pub naming : Case → ℕ → Refusal
@@ -52,14 +46,7 @@ reportRefusal c number = firstRefusal (checksOf c ++ (naming c number ∷ []))
 
 -- what stands beside a refusal
 abbrev pub noReport : Report
-noReport =
-    record {
-      «fresh_head» = zeroMetres;
-      «salt_head» = zeroMetres;
-      interface = zeroMetres;
-      «fresh_thickness» = zeroMetres;
-      «salt_thickness» = zeroMetres;
-    }
+noReport = inDoubles zeroMetres zeroMetres zeroMetres zeroMetres zeroMetres
 
 abbrev pub telling : Refusal → Report → Answer
 telling r report = record { refusal = r; report = report }

@@ -2,22 +2,14 @@
 ghost use mathlib.Core.Path.{_≡_};
 ghost use Prim.Native.Nat.{_*_, _≤_};
 ghost use lib.ListN.{length};
-ghost use Rattle.grid.specs.Judging.{Termed};
-ghost use Rattle.grid.specs.Place.{Counted, blocksOf};
-ghost use Rattle.slots.specs.Slots.{Ends};
-ghost use Rattle.slices.specs.Slices.{caseOf, Judged};
-ghost use Rattle.whole.specs.Whole.{Abs};
-ghost use Rattle.block.specs.Units.{mostInterface};
-ghost use Rattle.block.specs.Fluids.{Heads, Thick};
-ghost use Rattle.report.specs.Reports.{
-  inMetres,
-  reportOf,
-  namesActive,
-  noReport,
-  telling,
-  reportOfCase,
-  reportAnswer,
-};
+ghost use Rattle.grid.specs.Inner.{Counted, Termed};
+ghost use Rattle.grid.specs.Place.{blocksOf};
+ghost use Rattle.slots.specs.Inner.{Ends};
+ghost use Rattle.slices.specs.Slices.{caseOf};
+ghost use Rattle.slices.specs.Inner.{Judged};
+ghost use Rattle.whole.specs.Inner.{Abs};
+ghost use Rattle.block.specs.Inner.{Heads, Thick, mostInterface};
+ghost use Rattle.report.specs.Reports.{inMetres, reportOf, namesActive, noReport, telling, reportOfCase, reportAnswer};
 use block::Fluids;
 use block::density::interface;
 use block::geometry::levels_of;

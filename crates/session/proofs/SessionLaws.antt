@@ -1,8 +1,8 @@
 -- Laws of what is printed: how many lines tables have, and what stands beside an answer. Assumes nothing.
 use mathlib.Core.Bool.{Bool, _||_, cond, false, true, true≢false}
 use mathlib.Core.List.{List, _++_, append-assoc}
-use mathlib.Core.Logic.{_≢_, ⊎-elim}
-use mathlib.Core.Path.{_∙_, _≡_, refl, sym}
+use mathlib.Core.Logic.{_↔_, _≢_, ⊎-elim}
+use mathlib.Core.Path.{_∙_, _≡_, ap, ap₂, refl, sym}
 use Prim.Native.Nat.{_*_, _+_, _<_, _≤_, suc, zero, ℕ}
 use native.Mathlib.Decide.{decLt, ℕ-discrete}
 use native.Mathlib.Nat.{eq-or-lt-of-le, le-of-suc-le-suc}
@@ -17,17 +17,18 @@ use Rattle.whole.specs.Lent.{over}
 use Rattle.whole.proofs.SearchLaws.{not-left, not-right}
 use Rattle.slices.specs.declared.Refusal.{Refusal}
 use Rattle.slices.specs.Slices.{Case, caseOf, none, refusal}
-use Rattle.slices.proofs.SlicesLaws.{none-together}
+use Rattle.slices.proofs.SlicesLaws.{none-refused, none-together}
 use Rattle.wellformed.specs.Limits.{checkedOf, checksOf}
 use Rattle.books.specs.Waters.{wellChecks}
 use Rattle.books.proofs.WatersLaws.{wet-wells}
 use Rattle.balance.specs.Balance.{balancesOf}
 use Rattle.verdict.specs.declared.Verdict.{Verdict}
-use Rattle.verdict.specs.Ruling.{verdictAnswer, verdictOf}
+use Rattle.verdict.specs.Ruling.{noVerdict, verdictAnswer, verdictOf}
 use Rattle.verdict.proofs.AcceptanceLaws.{ruled-wet}
 use Rattle.budget.specs.Answers.{caseRefusal, eighteenOf, everywhere, layerAnswer, layerZone, tabled, wholeAnswer}
 use Rattle.budget.specs.Table.{rowOf}
 use Rattle.casefile.specs.Reading.{Read, readingOf}
+use Rattle.session.specs.Meaning.{Tabled}
 use Rattle.session.specs.Sessions.{alone, caseIn, fileSession, firstLineOnly, layersOf, lentSlots, lentWidths, mostFile, noTables, readSession, refusing, ruling, sessionOf, tablesOf, withTables}
 use Rattle.casefile.specs.declared.Answer as file
 
@@ -78,10 +79,23 @@ layer-among c n (suc m) rest l =
     (λ less. layer-among c n m (lines ++ rest) less)
     (eq-or-lt-of-le (le-of-suc-le-suc l)))
 
+-- cases with as many layers and the same table of each and of the whole have the same tables
+layers-same : (c d : Case) → ((layer : ℕ) → layerAnswer c layer ≡ layerAnswer d layer) → (n : ℕ) → layersOf c n ≡ layersOf d n
+unfolding layersOf
+layers-same c d layers zero = refl
+layers-same c d layers (suc n) = ap₂ (λ before answer. before ++ answer .lines) (layers-same c d layers n) (layers (suc n))
+
+pub tables-same : (c d : Case) → c .grid .layers ≡ d .grid .layers → ((layer : ℕ) → layerAnswer c layer ≡ layerAnswer d layer) → wholeAnswer c ≡ wholeAnswer d → tablesOf c ≡ tablesOf d
+unfolding tablesOf
+tables-same c d count layers whole = ap₂ (λ before answer. before ++ answer .lines) (layers-same c d layers (c .grid .layers) ∙ ap (layersOf d) count) whole
+
 -- ---- what stands beside a refusal, or a verdict
 
 not-either : (m n code : ℕ) → eqb code m || eqb code n ≡ false → (code ≢ m) × (code ≢ n)
 not-either m n code f = (λ e. true≢false (sym (eq-eqb code m e) ∙ not-left (eqb code m) (eqb code n) f), λ e. true≢false (sym (eq-eqb code n e) ∙ not-right (eqb code m) (eqb code n) f))
+
+neither : (m n code : ℕ) → code ≢ m → code ≢ n → eqb code m || eqb code n ≡ false
+neither m n code h k = rw (ne-eqb code m h, ne-eqb code n k)
 
 module _ (c : Case) where
   -- the numbers of a refusal
@@ -111,34 +125,58 @@ module _ (c : Case) where
       let codes = not-either 21 22 (verdictOf c .code) f in
       none-together (checksOf c) (wellChecks c) e (wet-wells c (ruled-wet (c .grid) (c .slots) (balancesOf c) (codes .0) (codes .1)))
 
--- where tables are printed the lines are theirs
-pub tables-lines : (c : Case) → sessionOf c .tables ≡ c .grid .layers + 1 → sessionOf c .lines ≡ over (tablesOf c) noTables
-unfolding sessionOf ruling
-tables-lines c e = go (eqb (verdictAnswer c .refusal .number) 0) (firstLineOnly (verdictAnswer c .verdict .code)) e
-  where
-    go : (b d : Bool) → cond b (cond d (alone (verdictAnswer c .verdict)) (withTables c (verdictAnswer c .verdict))) (refusing (verdictAnswer c .refusal)) .tables ≡ c .grid .layers + 1 →
-        cond b (cond d (alone (verdictAnswer c .verdict)) (withTables c (verdictAnswer c .verdict))) (refusing (verdictAnswer c .refusal)) .lines ≡ over (tablesOf c) noTables
-    go true true e = absurd (omega arith)
-    go true false e = refl
-    go false d e = absurd (omega arith)
+-- ---- the three ways of what is printed
 
--- what is printed beside an answer has its verdict
-ruling-verdict : (c : Case) (v : Verdict) → ruling c v .verdict ≡ v
-unfolding ruling
-ruling-verdict c v = go (firstLineOnly (v .code))
-  where
-    go : (b : Bool) → cond b (alone v) (withTables c v) .verdict ≡ v
-    go true = refl
-    go false = refl
+data Printed (c : Case) : Type 0 where
+  refused : checkedOf c .number ≢ 0 → sessionOf c ≡ refusing (checkedOf c) → Printed c
+  first-line : checkedOf c .number ≡ 0 → firstLineOnly (verdictOf c .code) ≡ true → sessionOf c ≡ alone (verdictOf c) → Printed c
+  in-full : checkedOf c .number ≡ 0 → firstLineOnly (verdictOf c .code) ≡ false → sessionOf c ≡ withTables c (verdictOf c) → Printed c
 
--- a session that is no refusal has the answer's verdict, on a case that is not refused
-pub session-unrefused : (c : Case) → sessionOf c .refusal .number ≡ 0 → (checkedOf c .number ≡ 0) × (sessionOf c .verdict ≡ verdictAnswer c .verdict)
-unfolding sessionOf verdictAnswer
-session-unrefused c = go (ℕ-discrete (verdictAnswer c .refusal .number) 0)
+printed : (c : Case) → Printed c
+printed c = judge (ℕ-discrete (checkedOf c .number) 0)
   where
-    go : Dec (verdictAnswer c .refusal .number ≡ 0) → sessionOf c .refusal .number ≡ 0 → (checkedOf c .number ≡ 0) × (sessionOf c .verdict ≡ verdictAnswer c .verdict)
-    go (yes h) e = (h, rw (eq-eqb (verdictAnswer c .refusal .number) 0 h) (ruling-verdict c (verdictOf c)))
-    go (no h) e = absurd (h (rw (ne-eqb (verdictAnswer c .refusal .number) 0 h) at e))
+    rule : checkedOf c .number ≡ 0 → (b : Bool) → firstLineOnly (verdictOf c .code) ≡ b → Printed c
+    rule e true f = first-line e f (sym (session-ruled c e) ∙ sym (ruling-alone c (verdictOf c) f))
+    rule e false f = in-full e f (sym (session-ruled c e) ∙ sym (ruling-tables c (verdictOf c) f refl))
+
+    judge : Dec (checkedOf c .number ≡ 0) → Printed c
+    judge (yes e) = rule e (firstLineOnly (verdictOf c .code)) refl
+    judge (no n) = refused n (sym (session-refused c refl n))
+
+-- as many tables as layers, and one, are printed exactly where tables are
+pub tables-counted : (c : Case) → (sessionOf c .tables ≡ c .grid .layers + 1) ↔ Tabled (sessionOf c)
+tables-counted c = (from (printed c), to (printed c))
+  where
+    from : Printed c → sessionOf c .tables ≡ c .grid .layers + 1 → Tabled (sessionOf c)
+    from (refused n r) e = absurd (omega (arith, e, ap (λ s. s .tables) r))
+    from (first-line h f r) e = absurd (omega (arith, e, ap (λ s. s .tables) r))
+    from (in-full h f r) e =
+        let codes = not-either 21 22 (verdictOf c .code) f in
+        rw r (record { unrefused = refl; unmoved = codes .0; undried = codes .1 })
+
+    to : Printed c → Tabled (sessionOf c) → sessionOf c .tables ≡ c .grid .layers + 1
+    to (refused n r) t = absurd (n ((rw r at t) .unrefused))
+    to (first-line h f r) t = absurd (true≢false (sym f ∙ neither 21 22 (verdictOf c .code) ((rw r at t) .unmoved) ((rw r at t) .undried)))
+    to (in-full h f r) t = ap (λ s. s .tables) r
+
+-- beside them no well is dry, and the lines are theirs
+pub tables-told : (c : Case) → Tabled (sessionOf c) → (caseRefusal c .number ≡ 0) × (sessionOf c .lines ≡ over (tablesOf c) noTables)
+tables-told c t = go (printed c)
+  where
+    go : Printed c → (caseRefusal c .number ≡ 0) × (sessionOf c .lines ≡ over (tablesOf c) noTables)
+    go (refused n r) = absurd (n ((rw r at t) .unrefused))
+    go (first-line h f r) = absurd (true≢false (sym f ∙ neither 21 22 (verdictOf c .code) ((rw r at t) .unmoved) ((rw r at t) .undried)))
+    go (in-full h f r) = (tables-wet c h f, ap (λ s. s .lines) r)
+
+-- what is printed has the answer's refusal and verdict, and with them code 20 beside a refusal
+pub session-answered : (c : Case) → (sessionOf c .refusal ≡ verdictAnswer c .refusal) × (sessionOf c .verdict ≡ verdictAnswer c .verdict)
+unfolding verdictAnswer
+session-answered c = go (printed c)
+  where
+    go : Printed c → (sessionOf c .refusal ≡ verdictAnswer c .refusal) × (sessionOf c .verdict ≡ verdictAnswer c .verdict)
+    go (refused n r) = (ap (λ s. s .refusal) r, ap (λ s. s .verdict) r ∙ rw (ne-eqb (checkedOf c .number) 0 n))
+    go (first-line h f r) = (ap (λ s. s .refusal) r ∙ sym (none-refused (checksOf c) h), ap (λ s. s .verdict) r ∙ rw (eq-eqb (checkedOf c .number) 0 h))
+    go (in-full h f r) = (ap (λ s. s .refusal) r ∙ sym (none-refused (checksOf c) h), ap (λ s. s .verdict) r ∙ rw (eq-eqb (checkedOf c .number) 0 h))
 
 -- ---- a file
 
@@ -174,3 +212,24 @@ file-unrefused file = go (decLt mostFile (length file)) (ℕ-discrete (readingOf
     go (yes h) d e = let z : _≡_ {A = ℕ} 8 0 = rw (lt-ltb mostFile (length file) h) at e in absurd (omega arith)
     go (no h) (yes z) e = rw (le-ltb mostFile (length file) (omega arith), eq-eqb (r .answer .refusal .number) 0 z) refl
     go (no h) (no z) e = absurd (z (rw (le-ltb mostFile (length file) (omega arith), ne-eqb (r .answer .refusal .number) 0 z) at e))
+
+-- and one for which a refusal is printed was not judged
+pub file-refused : (file : List ℕ) → fileSession file .refusal .number ≢ 0 → fileSession file .verdict ≡ noVerdict
+unfolding fileSession readSession
+file-refused file n = go (decLt mostFile (length file)) (ℕ-discrete (r .answer .refusal .number) 0)
+  where
+    r : Read
+    r = readingOf file lentWidths lentWidths lentSlots
+
+    of-case : Printed (caseIn r) → sessionOf (caseIn r) .refusal .number ≢ 0 → sessionOf (caseIn r) .verdict ≡ noVerdict
+    of-case (refused h e) n = ap (λ s. s .verdict) e
+    of-case (first-line h f e) n = absurd (n (ap (λ s. s .refusal .number) e))
+    of-case (in-full h f e) n = absurd (n (ap (λ s. s .refusal .number) e))
+
+    go : Dec (mostFile < length file) → Dec (r .answer .refusal .number ≡ 0) → fileSession file .verdict ≡ noVerdict
+    go (yes h) d = rw (lt-ltb mostFile (length file) h)
+    go (no h) (no z) = rw (le-ltb mostFile (length file) (omega arith), ne-eqb (r .answer .refusal .number) 0 z)
+    go (no h) (yes z) =
+        let e = file-read file (omega arith) in
+        let read : readSession r ≡ sessionOf (caseIn r) = rw (eq-eqb (r .answer .refusal .number) 0 z) refl in
+        rw (e, read) (of-case (printed (caseIn r)) (rw (e, read) at n))

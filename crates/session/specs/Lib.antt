@@ -1,2 +1,3 @@
 -- The definitions of `session`, for the crates above.
 pub mod Sessions
+pub mod Meaning

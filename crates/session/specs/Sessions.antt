@@ -16,10 +16,6 @@ use Rattle.fields.specs.Fields.{mostSlots}
 use Rattle.casefile.specs.Reading.{Read, readingOf}
 use Rattle.session.specs.declared.Session.{Session}
 
--- lines of a table: "two rows, fresh and salt, of nine lines"
-abbrev pub linesEach : ℕ
-linesEach = 18
-
 -- lines of the most tables: one for each of 8 layers and one for the whole
 abbrev pub mostLines : ℕ
 mostLines = 162
@@ -32,7 +28,7 @@ mostFile = 28672
 abbrev pub noTables : List ℤ
 noTables = replicate mostLines (pos 0)
 
--- "a refusal prints `refused`, number, block": beside it all is 0
+-- "a refusal prints `refused`, number, block": beside it nothing is judged, and all is 0
 abbrev pub refusing : Refusal → Session
 refusing r = record { refusal = r; verdict = noVerdict; tables = 0; lines = noTables }
 

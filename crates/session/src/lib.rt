@@ -8,17 +8,9 @@ ghost use Rattle.whole.specs.Lent.{over};
 ghost use Rattle.slices.specs.Slices.{caseOf};
 ghost use Rattle.wellformed.specs.Limits.{checkedOf};
 ghost use Rattle.verdict.specs.Ruling.{verdictOf};
-ghost use Rattle.zone.specs.Table.{Worked};
+ghost use Rattle.zone.specs.Inner.{Worked};
 ghost use Rattle.budget.specs.Answers.{caseRefusal};
-ghost use Rattle.session.specs.Sessions.{
-  firstLineOnly,
-  layersOf,
-  tablesOf,
-  refusing,
-  ruling,
-  sessionOf,
-  fileSession,
-};
+ghost use Rattle.session.specs.Sessions.{firstLineOnly, layersOf, tablesOf, refusing, ruling, sessionOf, fileSession};
 use balance::balances::fill_balances;
 use books::rows::ROW;
 use books::waters::fill_waters;
@@ -37,7 +29,8 @@ use wellformed::check_slices;
 use whole::lent::copy_front;
 
 // A refusal, or beside number 0 a verdict and how many tables follow it: one for each layer from 1 and one for the whole, or none. A table has eighteen
-// lines, litres a day, as in `budget`, and the tables stand one after the other; all lines behind them are 0. Beside a refusal all is 0.
+// lines, litres a day, as in `budget`, and the tables stand one after the other; all lines behind them are 0. Beside a refusal the verdict has code 20, not judged,
+// and all else is 0.
 pub struct Session {
     pub refusal: Refusal,
     pub verdict: Verdict,
@@ -57,7 +50,7 @@ const MOST_LINES: usize = LINES_EACH * MOST_TABLES;
 // 8: "in the program, before all else, a file above 28,672 bytes".
 pub const MOST_FILE: usize = 28_672;
 
-// A refusal, beside which all is 0.
+// A refusal, beside which nothing is judged and all is 0.
 fn refused(refusal: Refusal) -> Session
     ensures { λ r. ⌜ r ≡ refusing refusal ⌝ }
 {

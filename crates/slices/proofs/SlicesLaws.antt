@@ -1,8 +1,8 @@
--- Laws of judging: the order of refusals, and what a case that is not refused gives. Assumes nothing.
+-- Laws of judging: the order of refusals, which block is named, and what a case that is not refused gives, both ways. Assumes nothing.
 use mathlib.Core.Bool.{Bool, _&&_, cond, false, not, true}
 use mathlib.Core.List.{List, [], _++_, _∷_}
-use mathlib.Core.Path.{_∙_, _≡_, ap, refl, sym}
-use Prim.Native.Nat.{_*_, _<_, _≤_, suc, zero, ℕ}
+use mathlib.Core.Path.{_∙_, _≡_, ap, ap₂, refl, sym}
+use Prim.Native.Nat.{_*_, _+_, _-_, _<_, _≤_, suc, zero, ℕ}
 use native.Mathlib.Decide.{ℕ-discrete}
 use native.Mathlib.Omega.{arith}
 use lib.Dec.{T, eqb, leb, leb→le, le→leb}
@@ -11,18 +11,22 @@ use lib.ListN.{length}
 use borrow.Author.Tests.{eq-eqb, ne-eqb, not-false}
 use Rattle.whole.specs.declared.ranges.Range.{Range}
 use Rattle.whole.specs.Ranges.{allWithin, between}
-use Rattle.whole.proofs.SearchLaws.{both, first-none, holds, joint, true-is}
-use Rattle.whole.proofs.WithinLaws.{within-at}
+use Rattle.whole.specs.Search.{firstOf}
+use Rattle.whole.proofs.SearchLaws.{both, first-found, first-is, first-none, holds, joint, none-first, true-is}
+use Rattle.whole.proofs.WithinLaws.{within-all, within-at}
 use Rattle.grid.specs.declared.Grid.{Grid}
 use Rattle.grid.specs.Judging.{countsHold, termsHold}
-use Rattle.grid.specs.Place.{Counted, blocksOf, topOf}
-use Rattle.grid.proofs.JudgingLaws.{counts-counted, terms-termed}
+use Rattle.grid.specs.Inner.{Counted}
+use Rattle.grid.specs.Place.{blocksOf, topOf}
+use Rattle.grid.proofs.JudgingLaws.{counted-counts, counts-counted, termed-terms, terms-termed}
 use Rattle.slots.specs.Rules.{slotsHold}
 use Rattle.slots.specs.Slots.{partOf}
 use Rattle.slots.specs.Units.{slotsEach}
-use Rattle.slots.proofs.SlotsLaws.{slots-active, slots-inactive}
+use Rattle.slots.proofs.SlotsLaws.{slots-active, slots-inactive, slots-stand}
 use Rattle.slices.specs.declared.Refusal.{Refusal}
-use Rattle.slices.specs.Slices.{Case, Judged, Roomy, blaming, contentsOf, faultOf, firstRefusal, judgedLent, judgedOf, lentOf, mostWidth, none, orElse, refusal, roomHolds, shapeOf, unless, widthsHold}
+use Rattle.slices.specs.Slices.{Case, blaming, contentsOf, faultOf, firstRefusal, lentOf, mostWidth, none, orElse, refusal, roomHolds, shapeOf, slotsFail, unless, unlessRefused, widthsHold}
+use Rattle.slices.specs.Inner.{Judged, Roomy, judgedLent, judgedOf}
+use Rattle.slices.specs.Meaning.{NamesFirst}
 
 -- ---- the order of refusals
 
@@ -54,6 +58,18 @@ module _ (xs ys : List Refusal) (r : Refusal) (told : r ≡ firstRefusal xs) whe
 
   pub first-goes-on : (q : Refusal) → r .number ≡ 0 → q ≡ firstRefusal ys → q ≡ firstRefusal (xs ++ ys)
   first-goes-on q h e = sym (first-append xs ys ∙ rw (← told, ← e) (or-next r q h))
+
+-- what two runs come to together is told by what each comes to
+pub runs-same : (xs ys zs ws : List Refusal) → firstRefusal xs ≡ firstRefusal zs → firstRefusal ys ≡ firstRefusal ws → firstRefusal (xs ++ ys) ≡ firstRefusal (zs ++ ws)
+runs-same xs ys zs ws p q = first-append xs ys ∙ ap₂ orElse p q ∙ sym (first-append zs ws)
+
+-- what is given beside a refusal is asked only where nothing is refused
+pub given-same : {A : Type 0} {r q : Refusal} (x y otherwise : A) → r ≡ q → (r .number ≡ 0 → x ≡ y) → unlessRefused r x otherwise ≡ unlessRefused q y otherwise
+given-same {A} {r} x y otherwise e same = go (ℕ-discrete (r .number) 0) ∙ ap (λ (q : Refusal). unlessRefused q y otherwise) e
+  where
+    go : Dec (r .number ≡ 0) → unlessRefused r x otherwise ≡ unlessRefused r y otherwise
+    go (yes h) = ap (λ (z : A). unlessRefused r z otherwise) (same h)
+    go (no h) = rw (ne-eqb (r .number) 0 h)
 
 -- a block that is blamed, and none
 pub blames-some : (n b : ℕ) (y : Refusal) → (n ≡ 0 → ⊥) → 0 < b → refusal n b ≡ orElse (blaming n b) y
@@ -115,6 +131,59 @@ pub blames-none : (n b : ℕ) {xs : List Refusal} → (n ≡ 0 → ⊥) → Amon
 blames-none n zero h m e = refl
 blames-none n (suc b) h m e = absurd (h (none-among m e))
 
+-- ---- which block is named
+
+module _ (blocks : ℕ) (fault : ℕ → Bool) where
+  -- the first that is found
+  pub found-named : (p : ℕ) → firstOf blocks fault ≡ suc p → NamesFirst blocks fault (suc p)
+  found-named p e =
+      let h = first-is fault blocks p e in
+      let same : suc p - 1 ≡ p = omega arith in
+      record {
+        some = omega arith;
+        inside = h .0;
+        at-fault = holds (ap fault same ∙ h .1 .0);
+        none-before = λ i l. first-none fault p (h .1 .1) i (omega arith);
+      }
+
+  -- and only that one
+  pub named-found : (number : ℕ) → NamesFirst blocks fault number → firstOf blocks fault ≡ number
+  named-found number h =
+      let same : number - 1 + 1 ≡ number = omega (arith, h .some) in
+      first-found fault (number - 1) blocks (omega (arith, h .some, h .inside))
+      (none-first fault (number - 1) (λ i l. h .none-before i (omega arith)))
+      (true-is (h .at-fault))
+      ∙ same
+
+-- what holds of the first refusal of several: of one that is given, whatever it is, or by its ground, a test that fails or a block at fault; and otherwise of
+-- those that follow
+pub by-one : (P : Refusal → Type 0) (x rest : Refusal) → ((x .number ≡ 0 → ⊥) → P x) → (x .number ≡ 0 → P rest) → P (orElse x rest)
+by-one P x rest given passes = go (ℕ-discrete (x .number) 0)
+  where
+    go : Dec (x .number ≡ 0) → P (orElse x rest)
+    go (yes e) = rw (or-next x rest e) (passes e)
+    go (no some) = rw (or-first x rest some) (given some)
+
+module _ (P : Refusal → Type 0) (n : ℕ) (some : n ≡ 0 → ⊥) (rest : Refusal) where
+  pub by-test : (b : Bool) → (b ≡ false → P (refusal n 0)) → (b ≡ true → P rest) → P (orElse (unless n b) rest)
+  by-test true fails passes = rw (or-next none rest refl) (passes refl)
+  by-test false fails passes = rw (or-first (refusal n 0) rest some) (fails refl)
+
+  pub by-block : (blocks : ℕ) (fault : ℕ → Bool) → ((block : ℕ) → NamesFirst blocks fault block → P (refusal n block)) → (((i : ℕ) → i < blocks → fault i ≡ false) → P rest) → P (orElse (blaming n (firstOf blocks fault)) rest)
+  by-block blocks fault fails passes = go (firstOf blocks fault) refl
+    where
+      go : (b : ℕ) → firstOf blocks fault ≡ b → P (orElse (blaming n b) rest)
+      go zero e = rw (or-next none rest refl) (passes (first-none fault blocks e))
+      go (suc p) e = rw (or-first (refusal n (suc p)) rest some) (fails (suc p) (found-named blocks fault p e))
+
+-- and the other way round: a block that is named, and none
+module _ (n blocks : ℕ) (fault : ℕ → Bool) (rest : Refusal) where
+  pub names-blames : (block : ℕ) → (n ≡ 0 → ⊥) → NamesFirst blocks fault block → orElse (blaming n (firstOf blocks fault)) rest ≡ refusal n block
+  names-blames block some names = rw (named-found blocks fault block names) (sym (blames-some n block rest some (names .some)))
+
+  pub none-blames : ((i : ℕ) → i < blocks → fault i ≡ false) → orElse (blaming n (firstOf blocks fault)) rest ≡ rest
+  none-blames h = rw (none-first fault blocks h) (or-next none rest refl)
+
 -- ---- 7, of all that is lent
 
 module _ (c : Case) (reaches : Bool) where
@@ -135,6 +204,10 @@ module _ (c : Case) (reaches : Bool) where
       let h = none-apart (lentOf c reaches) (contentsOf c) e in
       let l = lent-apart (h .0) in
       (none-together (shapeOf c) (contentsOf c) (l .0) (h .1), l .1)
+
+  pub judged-joint : judgedOf c .number ≡ 0 → T reaches → judgedLent c reaches .number ≡ 0
+  unfolding lentOf shapeOf firstRefusal orElse
+  judged-joint e t = rw (true-is {b = reaches} t) e
 
 -- ---- what holds of a case that is not refused
 
@@ -157,7 +230,7 @@ roomy-room c h =
 faultless : (g : Grid) (slots : List ℤ) → faultOf g slots ≡ 0 → (i : ℕ) → i < blocksOf g → T (slotsHold (partOf slots i) (topOf g i))
 unfolding faultOf
 faultless g slots e i l =
-    holds (not-false (slotsHold (partOf slots i) (topOf g i)) (first-none (λ k. not (slotsHold (partOf slots k) (topOf g k))) (blocksOf g) e i l))
+    holds (not-false (slotsHold (partOf slots i) (topOf g i)) (first-none (slotsFail g slots) (blocksOf g) e i l))
 
 -- 3 and 7 did not refuse
 pub shape-stands : (c : Case) → firstRefusal (shapeOf c) .number ≡ 0 → Counted (c .grid) × Roomy c
@@ -210,3 +283,12 @@ judged-stands c e =
       active = λ i l. slots-active (partOf (c .slots) i) (topOf (c .grid) i) (stands i l);
       inactive = λ i l. slots-inactive (partOf (c .slots) i) (topOf (c .grid) i) (stands i l);
     }
+
+-- And the other way round: a case with these ranges is not refused.
+pub stands-judged : (c : Case) → Judged c → judgedOf c .number ≡ 0
+unfolding widthsHold faultOf
+stands-judged c h =
+    let widths = ap₂ _&&_ (within-all wide (c .columns) (c .grid .columns) (h .column)) (within-all wide (c .rows) (c .grid .rows) (h .row)) in
+    let stand : (i : ℕ) → i < blocksOf (c .grid) → slotsFail (c .grid) (c .slots) i ≡ false = λ i l. ap not (slots-stand (partOf (c .slots) i) (topOf (c .grid) i) (h .active i l) (h .inactive i l)) in
+    none-together (shapeOf c) (contentsOf c) (shape-passes c (counted-counts (c .grid) (h .counted)) (h .roomy))
+    (contents-pass c (true-is (termed-terms (c .grid) (h .termed))) widths (none-first (slotsFail (c .grid) (c .slots)) (blocksOf (c .grid)) stand))

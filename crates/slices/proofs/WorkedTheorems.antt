@@ -14,7 +14,8 @@ use Rattle.grid.specs.Judging.{countsHold, termsHold}
 use Rattle.slots.specs.Ranges.{rangeOf, endsHold}
 use Rattle.slots.specs.Slots.{slotsAt}
 use Rattle.slots.specs.Rules.{allZero, screenWithin, screensHold, layerHolds, boundaryHolds, rulesHold, slotsHold}
-use Rattle.slices.specs.Slices.{Case, caseOf, none, refusal, orElse, firstRefusal, roomHolds, widthsHold, faultOf, shapeOf, contentsOf, judgedOf}
+use Rattle.slices.specs.Slices.{Case, caseOf, none, refusal, orElse, firstRefusal, roomHolds, widthsHold, faultOf, shapeOf, contentsOf}
+use Rattle.slices.specs.Inner.{judgedOf}
 
 abbrev pub sized : ℕ → ℕ → ℕ → Grid
 sized columns rows layers = recordOf columns rows layers (pos 40) 0 (pos 30) (pos 5)

@@ -1,20 +1,18 @@
 -- What slices are refused with before any physics (document 01, "Refusal numbers"): "Slices are judged 3, 7, 4, 5, 6".
-use mathlib.Core.Path.{_≡_}
 use mathlib.Core.Bool.{Bool, true, false, not, cond, _&&_}
 use mathlib.Core.List.{List, [], _∷_, _++_}
-use Prim.Native.Nat.{ℕ, zero, suc, _*_, _≤_, _<_}
-use lib.Dec.{T, leb, eqb}
+use Prim.Native.Nat.{ℕ, zero, suc, _*_}
+use lib.Dec.{leb, eqb}
 use lib.IntN.{ℤ, pos}
-use lib.ListN.{length, getD}
-use Rattle.whole.specs.Whole.{In}
+use lib.ListN.{length}
 use Rattle.whole.specs.Ranges.{between, allWithin}
 use Rattle.whole.specs.Search.{firstOf}
 use Rattle.grid.specs.declared.Grid.{Grid}
-use Rattle.grid.specs.Place.{blocksOf, topOf, Counted}
-use Rattle.grid.specs.Judging.{countsHold, termsHold, Termed}
+use Rattle.grid.specs.Place.{blocksOf, topOf}
+use Rattle.grid.specs.Judging.{countsHold, termsHold}
 use Rattle.slots.specs.Units.{slotsEach}
-use Rattle.slots.specs.Slots.{partOf, blockOf, isActive}
-use Rattle.slots.specs.Rules.{slotsHold, Active}
+use Rattle.slots.specs.Slots.{partOf}
+use Rattle.slots.specs.Rules.{slotsHold}
 use Rattle.slices.specs.declared.Refusal.{Refusal}
 
 -- a case as slices hold it: the record, the widths of columns and rows in metres, and the slots, sixteen to a block
@@ -73,9 +71,13 @@ roomHolds c = leb (c .grid .columns) (length (c .columns)) && (leb (c .grid .row
 unfoldable pub widthsHold : Grid → List ℤ → List ℤ → Bool
 widthsHold g columns rows = allWithin (between (pos 1) (pos mostWidth)) columns (g .columns) && allWithin (between (pos 1) (pos mostWidth)) rows (g .rows)
 
--- 6: "a slot is out of range"; "Refusals 6, 9, 10, 13 and 14 name the first block at fault"
+-- 6: "a slot is out of range": a block whose slots do not stand
+abbrev pub slotsFail : Grid → List ℤ → ℕ → Bool
+slotsFail g slots i = not (slotsHold (partOf slots i) (topOf g i))
+
+-- "Refusals 6, 9, 10, 13 and 14 name the first block at fault"
 unfoldable pub faultOf : Grid → List ℤ → ℕ
-faultOf g slots = firstOf (blocksOf g) (λ i. not (slotsHold (partOf slots i) (topOf g i)))
+faultOf g slots = firstOf (blocksOf g) (slotsFail g slots)
 
 -- "Slices are judged 3, 7, 4, 5, 6": the first two, which say that a case is there
 unfoldable pub shapeOf : Case → List Refusal
@@ -89,36 +91,6 @@ contentsOf c =
     ∷ blaming 6 (faultOf (c .grid) (c .slots))
     ∷ []
 
--- "Slices are judged 3, 7, 4, 5, 6": the first of these that refuses the case
-abbrev pub judgedOf : Case → Refusal
-judgedOf c = firstRefusal (shapeOf c ++ contentsOf c)
-
 -- 3 and 7 where more is lent than the case itself, marks or room for an answer: 7, "a lent slice is too short", of that too
 unfoldable pub lentOf : Case → Bool → List Refusal
 lentOf c reaches = shapeOf c ++ (unless 7 reaches ∷ [])
-
--- "Slices are judged 3, 7, 4, 5, 6", with all that is lent in 7's place
-abbrev pub judgedLent : Case → Bool → Refusal
-judgedLent c reaches = firstRefusal (lentOf c reaches ++ contentsOf c)
-
--- whether a slice of so many numbers reaches over a grid, with so many to a block; the counts are to be in range, or 3 comes first
-abbrev pub reachesOver : Grid → ℕ → ℕ → Bool
-reachesOver g each room = countsHold g && leb (each * blocksOf g) room
-
--- ---- what later parts require of a case: what it is not refused for
-
--- 7: the lent slices are long enough
-pub record Roomy (c : Case) : Type 0 where
-  pub columns : c .grid .columns ≤ length (c .columns)
-  pub rows : c .grid .rows ≤ length (c .rows)
-  pub slots : slotsEach * blocksOf (c .grid) ≤ length (c .slots)
-
--- 3, 7, 4, 5 and 6: counts, room, terms, widths in metres, and the slots of active and of inactive blocks
-pub record Judged (c : Case) : Type 0 where
-  pub counted : Counted (c .grid)
-  pub roomy : Roomy c
-  pub termed : Termed (c .grid)
-  pub column : (k : ℕ) → k < c .grid .columns → In (pos 1) (pos mostWidth) (getD (c .columns) k (pos 0))
-  pub row : (k : ℕ) → k < c .grid .rows → In (pos 1) (pos mostWidth) (getD (c .rows) k (pos 0))
-  pub active : (i : ℕ) → i < blocksOf (c .grid) → T (isActive (blockOf (c .slots) i)) → Active (blockOf (c .slots) i) (topOf (c .grid) i)
-  pub inactive : (i : ℕ) → i < blocksOf (c .grid) → T (not (isActive (blockOf (c .slots) i))) → (slot : ℕ) → slot < slotsEach → getD (partOf (c .slots) i) slot (pos 0) ≡ pos 0

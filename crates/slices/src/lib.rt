@@ -3,19 +3,10 @@
 ghost use mathlib.Core.Path.{_≡_};
 ghost use Prim.Native.Nat.{_*_, _≤_};
 ghost use lib.ListN.{length};
-ghost use Rattle.grid.specs.Place.{Counted, blocksOf};
-ghost use Rattle.slices.specs.Slices.{
-  caseOf,
-  roomHolds,
-  widthsHold,
-  faultOf,
-  shapeOf,
-  contentsOf,
-  judgedLent,
-  reachesOver,
-  firstRefusal,
-  Roomy,
-};
+ghost use Rattle.grid.specs.Inner.{Counted};
+ghost use Rattle.grid.specs.Place.{blocksOf};
+ghost use Rattle.slices.specs.Slices.{caseOf, roomHolds, widthsHold, faultOf, shapeOf, contentsOf, firstRefusal};
+ghost use Rattle.slices.specs.Inner.{judgedLent, reachesOver, Roomy};
 use grid::Grid;
 use grid::judging::counts_hold;
 use grid::judging::terms_hold;

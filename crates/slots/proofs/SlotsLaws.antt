@@ -1,6 +1,6 @@
 -- Laws of a block's slots: the table's rule, and what slots that stand tell of each slot. Assumes nothing.
 use mathlib.Core.Path.{_≡_, refl, sym, ap, ap₂, _∙_}
-use mathlib.Core.Bool.{Bool, not, _&&_}
+use mathlib.Core.Bool.{Bool, true, false, not, cond, _&&_}
 use mathlib.Core.List.{List, [], _∷_}
 use Prim.Native.Nat.{ℕ, zero, suc, _+_, _*_, _<_}
 use native.Mathlib.Omega.{arith}
@@ -8,18 +8,19 @@ use lib.Dec.{T}
 use lib.IntN.{ℤ, pos, negℤ}
 use lib.ListN.{getD}
 use lib.Seq.{getD-drop}
-use lib.Signed.{_≤ℤ_, leZ, leZ-yes, ltZ-yes}
+use lib.Signed.{_≤ℤ_, ≤ℤ-refl, leZ, leZ-yes, ltZ-yes}
 use Rattle.whole.specs.declared.ranges.Range.{Range}
-use Rattle.whole.specs.Whole.{In}
+use Rattle.whole.specs.Inner.{In}
 use Rattle.whole.specs.Search.{every}
 use Rattle.whole.specs.Ranges.{between, inRange, allWithin}
 use Rattle.whole.proofs.OrderLaws.{≤ℤ-antisymm, one-least}
-use Rattle.whole.proofs.SearchLaws.{both, every-all, cond-true, cond-false}
-use Rattle.whole.proofs.WithinLaws.{range-in, within-at}
+use Rattle.whole.proofs.SearchLaws.{both, every-all, every-start, every-more, cond-true, cond-false, true-is}
+use Rattle.whole.proofs.WithinLaws.{range-in, in-ranged, within-at, within-all}
 use Rattle.slots.specs.Units.{slotsEach, mostPumpage}
 use Rattle.slots.specs.Ranges.{rangeOf, endsHold}
-use Rattle.slots.specs.Slots.{slotsAt, partOf, blockOf, isActive, Ends}
-use Rattle.slots.specs.Rules.{allZero, rulesHold, slotsHold, Active}
+use Rattle.slots.specs.Slots.{slotsAt, partOf, blockOf, isActive}
+use Rattle.slots.specs.Inner.{Active, Ends}
+use Rattle.slots.specs.Rules.{allZero, rulesHold, slotsHold}
 
 -- ---- the table's rule: its ends are the right way round, and none is further from 0 than the greatest pumpage
 
@@ -113,3 +114,30 @@ module _ (s : List ℤ) (top : Bool) (t : T (slotsHold s top)) where
   slots-inactive a slot l =
       let zero = within-at (between (pos 0) (pos 0)) s slotsEach (cond-false (isActive (slotsAt s)) (endsHold s && rulesHold (slotsAt s) top) (allZero s) t a) slot l in
       ≤ℤ-antisymm (zero .high) (zero .low)
+
+-- ---- and the other way round: slots that tell so stand
+
+-- slot by slot
+ends-hold : (s : List ℤ) → Ends (slotsAt s) → endsHold s ≡ true
+unfolding endsHold slotsAt rangeOf
+ends-hold s h =
+    let four = next 3 (next 2 (next 1 (next 0 (every-start test) (h .k)) (h .base)) (h .thickness)) (h .porosity) in
+    let eight = next 7 (next 6 (next 5 (next 4 four (h .leakance)) (h .recharge)) (h .pumpage)) (h .screen-bottom) in
+    let twelve = next 11 (next 10 (next 9 (next 8 eight (h .screen-top)) (h .kind)) (h .level)) (h .boundary-leakance) in
+    next 15 (next 14 (next 13 (next 12 twelve (h .old-fresh)) (h .old-salt)) (h .new-fresh)) (h .new-salt)
+  where
+    test : ℕ → Bool
+    test slot = inRange (rangeOf slot) (getD s slot (pos 0))
+
+    next : (slot : ℕ) → every slot test ≡ true → In (rangeOf slot .lower) (rangeOf slot .upper) (getD s slot (pos 0)) → every (slot + 1) test ≡ true
+    next slot e i = every-more test slot e (in-ranged (rangeOf slot) (getD s slot (pos 0)) i)
+
+pub slots-stand : (s : List ℤ) (top : Bool) → (T (isActive (slotsAt s)) → Active (slotsAt s) top)
+    → (T (not (isActive (slotsAt s))) → (slot : ℕ) → slot < slotsEach → getD s slot (pos 0) ≡ pos 0) → slotsHold s top ≡ true
+unfolding slotsHold allZero
+slots-stand s top active inactive = go (isActive (slotsAt s)) active inactive
+  where
+    go : (a : Bool) → (T a → Active (slotsAt s) top) → (T (not a) → (slot : ℕ) → slot < slotsEach → getD s slot (pos 0) ≡ pos 0)
+        → cond a (endsHold s && rulesHold (slotsAt s) top) (allZero s) ≡ true
+    go true h k = let b = h tt in ap₂ _&&_ (ends-hold s (b .ends)) (true-is (b .rules))
+    go false h k = within-all (between (pos 0) (pos 0)) s slotsEach (λ slot l. rw (k tt slot l) (record { low = ≤ℤ-refl (pos 0); high = ≤ℤ-refl (pos 0) }))

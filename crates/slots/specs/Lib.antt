@@ -3,3 +3,4 @@ pub mod Units
 pub mod Ranges
 pub mod Slots
 pub mod Rules
+pub mod Inner

@@ -1,15 +1,14 @@
 -- The rules that a block's slots follow beyond their ends (document 01, "Units and ranges").
 use mathlib.Core.Bool.{Bool, true, false, cond, _&&_, _||_}
 use mathlib.Core.List.{List}
-use lib.Dec.{T}
 use lib.IntN.{ℤ, pos, _+ℤ_}
-use lib.Signed.{_≤ℤ_, leZ, ltZ}
+use lib.Signed.{leZ, ltZ}
 use Rattle.whole.specs.Whole.{isZero}
 use Rattle.whole.specs.Ranges.{between, inRange, allWithin}
 use Rattle.slots.specs.declared.Block.{Block}
 use Rattle.slots.specs.Units.{slotsEach}
 use Rattle.slots.specs.Ranges.{endsHold}
-use Rattle.slots.specs.Slots.{slotsAt, isActive, Ends}
+use Rattle.slots.specs.Slots.{slotsAt, isActive}
 
 -- "An inactive block has all 16 zero."
 unfoldable pub allZero : List ℤ → Bool
@@ -53,9 +52,3 @@ rulesHold b top = screensHold b && (layerHolds b top && boundaryHolds b top)
 -- 6: "a slot is out of range": whether a block's slots stand, in the top layer or below it
 unfoldable pub slotsHold : List ℤ → Bool → Bool
 slotsHold s top = cond (isActive (slotsAt s)) (endsHold s && rulesHold (slotsAt s) top) (allZero s)
-
--- an active block whose slots stand, in the top layer or below it: what later parts require
-pub record Active (b : Block) (top : Bool) : Type 0 where
-  pub ends : Ends b
-  pub k-some : pos 1 ≤ℤ b .k
-  pub rules : T (rulesHold b top)

@@ -2,12 +2,11 @@
 use mathlib.Core.Bool.{Bool}
 use mathlib.Core.List.{List}
 use Prim.Native.Nat.{ℕ, _*_}
-use lib.IntN.{ℤ, pos, negℤ}
+use lib.IntN.{ℤ, pos}
 use lib.ListN.{getD, drop}
 use lib.Signed.{ltZ}
-use Rattle.whole.specs.Whole.{In, Abs}
 use Rattle.slots.specs.declared.Block.{Block}
-use Rattle.slots.specs.Units.{slotsEach, mostK, mostLevel, mostThickness, mostPorosity, mostLeakance, mostRecharge, mostPumpage, mostScreen, mostKind}
+use Rattle.slots.specs.Units.{slotsEach}
 
 -- "A block has 16 slots: K, base, thickness, porosity, leakance, recharge, pumpage, screen bottom, screen top, kind, stage or floor, boundary
 -- leakance, old fresh, old salt, new fresh, new salt."
@@ -42,22 +41,3 @@ blockOf slots i = slotsAt (partOf slots i)
 -- "K, mm/day | .. 0 is inactive"
 abbrev pub isActive : Block → Bool
 isActive b = ltZ (pos 0) (b .k)
-
--- every slot within its ends, slot by slot: what later parts require
-pub record Ends (b : Block) : Type 0 where
-  pub k : In (pos 0) (pos mostK) (b .k)
-  pub base : Abs mostLevel (b .base)
-  pub thickness : In (pos 1) (pos mostThickness) (b .thickness)
-  pub porosity : In (pos 1) (pos mostPorosity) (b .porosity)
-  pub leakance : In (pos 0) (pos mostLeakance) (b .leakance)
-  pub recharge : In (pos 0) (pos mostRecharge) (b .recharge)
-  pub pumpage : Abs mostPumpage (b .pumpage)
-  pub screen-bottom : In (negℤ (pos mostLevel)) (pos mostScreen) (b .«screen_bottom»)
-  pub screen-top : In (negℤ (pos mostLevel)) (pos mostScreen) (b .«screen_top»)
-  pub kind : In (pos 0) (pos mostKind) (b .kind)
-  pub level : Abs mostLevel (b .level)
-  pub boundary-leakance : In (pos 0) (pos mostLeakance) (b .«boundary_leakance»)
-  pub old-fresh : Abs mostLevel (b .«old_fresh»)
-  pub old-salt : Abs mostLevel (b .«old_salt»)
-  pub new-fresh : Abs mostLevel (b .«new_fresh»)
-  pub new-salt : Abs mostLevel (b .«new_salt»)

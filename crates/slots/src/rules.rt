@@ -4,18 +4,8 @@ ghost use mathlib.Core.Bool.{_&&_};
 ghost use Prim.Native.Nat.{_≤_};
 ghost use lib.ListN.{length};
 ghost use Rattle.whole.specs.Whole.{isZero};
-ghost use Rattle.slots.specs.Rules.{
-  allZero,
-  screenWithin,
-  screensHold,
-  layerHolds,
-  isOpen,
-  openHolds,
-  boundaryHolds,
-  rulesHold,
-  slotsHold,
-};
-ghost use Rattle.slots.specs.Slots.{Ends};
+ghost use Rattle.slots.specs.Rules.{allZero, screenWithin, screensHold, layerHolds, isOpen, openHolds, boundaryHolds, rulesHold, slotsHold};
+ghost use Rattle.slots.specs.Inner.{Ends};
 use super::Block;
 use super::ranges::ends_hold;
 use super::slots_at;

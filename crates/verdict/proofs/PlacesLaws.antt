@@ -12,10 +12,10 @@ use lib.ListN.{length}
 use lib.Signed.{_<ℤ_, _≤ℤ_, ltZ}
 use Rattle.whole.specs.Sum.{count}
 use Rattle.whole.specs.Whole.{isZero}
-use Rattle.whole.proofs.LinearLaws.{#, from1, from2, linear, signed}
+use Rattle.whole.proofs.LinearLaws.{#, from1, linear, signed}
 use Rattle.whole.proofs.OrderLaws.{zero-is}
-use Rattle.whole.proofs.RangeLaws.{lt-false, lt-true}
-use Rattle.whole.proofs.SearchLaws.{holds, not-second}
+use Rattle.whole.proofs.RangeLaws.{lt-false, not-above}
+use Rattle.whole.proofs.SearchLaws.{holds, not-second, second-not}
 use Rattle.whole.proofs.SumLaws.{only-on}
 use Rattle.grid.specs.declared.Grid.{Grid}
 use Rattle.slots.specs.Slots.{blockOf}
@@ -23,7 +23,7 @@ use Rattle.block.specs.declared.Fluids.{Fluids}
 use Rattle.block.specs.Fluids.{inFluid, newHeads, oldHeads}
 use Rattle.wellformed.specs.Links.{activeOf}
 use Rattle.books.specs.Own.{fixedOf}
-use Rattle.balance.specs.Balance.{Bounded}
+use Rattle.balance.specs.Inner.{Bounded}
 use Rattle.verdict.specs.Places.{countedAt, countedBy, failsAt, freeAt, freeSizeOf, movedAt, sizeOf}
 
 -- ---- a place is a block and a fluid
@@ -88,6 +88,16 @@ size-from-zero (negsuc n) h = absurd (h .le)
 pub size-least : (z : ℤ) → pos 0 ≤ℤ sizeOf z
 size-least z = linear (search signed depth 30) (omega arith)
 
+-- ---- tests of a place, in two lists of slots: they look at its block alone
+module _ (s t : List ℤ) (i : ℕ) (same : blockOf s i ≡ blockOf t i) (fluid : ℕ) where
+  pub moved-same : movedAt s fluid i ≡ movedAt t fluid i
+  unfolding movedAt
+  moved-same = rw same
+
+  pub free-same : freeAt s fluid i ≡ freeAt t fluid i
+  unfolding freeAt
+  free-same = rw same
+
 -- ---- tests of a place as facts
 
 -- a fixed head that did not move
@@ -133,17 +143,8 @@ pub within-tolerance : (g : Grid) (slots : List ℤ) (β : ℕ → Fluids) (flui
 unfolding failsAt
 within-tolerance g slots β fluid i e t = lt-false (g .tolerance) (sizeOf (inFluid (β i) fluid)) (not-second (freeAt slots fluid i) (ltZ (g .tolerance) (sizeOf (inFluid (β i) fluid))) e t)
 
-not-above : (x y : ℤ) → y ≤ℤ x → ltZ x y ≡ false
-not-above x y h = go (ltZ x y) refl
-  where
-    go : (b : Bool) → ltZ x y ≡ b → b ≡ false
-    go true e = absurd (from2 (lt-true x y e) h (search (signed, # x, # y) depth 30) (omega arith))
-    go false e = refl
-
 pub holds-within : (g : Grid) (slots : List ℤ) (β : ℕ → Fluids) (fluid i : ℕ) → (T (freeAt slots fluid i) → sizeOf (inFluid (β i) fluid) ≤ℤ g .tolerance) → failsAt g slots β fluid i ≡ false
 unfolding failsAt
-holds-within g slots β fluid i h = go (freeAt slots fluid i) h
-  where
-    go : (a : Bool) → (T a → sizeOf (inFluid (β i) fluid) ≤ℤ g .tolerance) → a && ltZ (g .tolerance) (sizeOf (inFluid (β i) fluid)) ≡ false
-    go true h = not-above (g .tolerance) (sizeOf (inFluid (β i) fluid)) (h tt)
-    go false h = refl
+holds-within g slots β fluid i h =
+    let size = sizeOf (inFluid (β i) fluid) in
+    second-not (freeAt slots fluid i) (ltZ (g .tolerance) size) (λ free. not-above (g .tolerance) size (h free))

@@ -1,5 +1,5 @@
--- Laws of the verdict: what a code's first place tells of all places, which way a verdict is reached, and that it depends on the balances of
--- the blocks alone. Assumes nothing.
+-- Laws of the verdict: what a code's first place tells of all places, which way a verdict is reached, and that it depends on the places of the grid alone.
+-- Assumes nothing.
 use mathlib.Core.Bool.{Bool, cond, false}
 use mathlib.Core.List.{List}
 use mathlib.Core.Logic.{_≢_}
@@ -14,14 +14,17 @@ use Rattle.whole.proofs.SearchLaws.{count-none, first-most, first-none, first-s
 use Rattle.whole.proofs.SumLaws.{count-same}
 use Rattle.grid.specs.declared.Grid.{Grid}
 use Rattle.grid.specs.Place.{blocksOf}
+use Rattle.slots.specs.Slots.{blockOf}
 use Rattle.slices.specs.declared.Refusal.{Refusal}
 use Rattle.block.specs.declared.Fluids.{Fluids}
-use Rattle.books.specs.Waters.{Slotted, dryAt}
+use Rattle.books.specs.Inner.{Slotted}
+use Rattle.books.specs.Waters.{dryAt}
+use Rattle.books.proofs.AlikeLaws.{dry-same}
 use Rattle.verdict.specs.declared.Answer.{Answer}
 use Rattle.verdict.specs.declared.Verdict.{Verdict}
-use Rattle.verdict.specs.Places.{countedAt, countedBy, failsAt, freeSizeOf, movedAt, placesOf}
+use Rattle.verdict.specs.Places.{countedAt, countedBy, failsAt, freeAt, freeSizeOf, movedAt, placesOf}
 use Rattle.verdict.specs.Ruling.{answered, blockNumber, byBalance, codeOf, concerning, countOf, firstPlace, largestOf, noVerdict, verdictBy}
-use Rattle.verdict.proofs.PlacesLaws.{block-below, block-of, count-by-fluid, counted-by, fluid-below, place-is}
+use Rattle.verdict.proofs.PlacesLaws.{block-below, block-of, count-by-fluid, counted-by, fluid-below, free-same, moved-same, place-is}
 
 -- ---- by code
 module _ (g : Grid) (slots : List ℤ) (β : ℕ → Fluids) (code : ℕ) where
@@ -159,31 +162,58 @@ module _ (g : Grid) (slots : List ℤ) (β : ℕ → Fluids) {v : Verdict} (e : 
   unfolding byBalance
   balance-largest = ap (λ (v : Verdict). v .largest) e
 
--- ---- balances that are alike in every block give one verdict
-module _ (g : Grid) (slots : List ℤ) (β γ : ℕ → Fluids) (alike : (i : ℕ) → i < blocksOf g → β i ≡ γ i) where
-  counted-same : (code p : ℕ) → p < placesOf g → countedBy g slots β code p ≡ countedBy g slots γ code p
+-- ---- places that are alike give one verdict
+
+-- at every place of a grid two lists of slots have the same moved heads, dry wells and free heads, and blocks have the same balances
+pub record SamePlaces (g : Grid) (s t : List ℤ) (β γ : ℕ → Fluids) : Type 0 where
+  pub moved : (fluid i : ℕ) → i < blocksOf g → movedAt s fluid i ≡ movedAt t fluid i
+  pub dry : (i : ℕ) → i < blocksOf g → dryAt g s i ≡ dryAt g t i
+  pub free : (fluid i : ℕ) → i < blocksOf g → freeAt s fluid i ≡ freeAt t fluid i
+  pub balances : (i : ℕ) → i < blocksOf g → β i ≡ γ i
+
+module _ (g : Grid) (s t : List ℤ) (β γ : ℕ → Fluids) (same : SamePlaces g s t β γ) where
+  counted-same : (code p : ℕ) → p < placesOf g → countedBy g s β code p ≡ countedBy g t γ code p
   unfolding countedAt failsAt
-  counted-same code p l = rw (alike (p / 2) (block-below (blocksOf g) p l))
+  counted-same code p l =
+      let inside = block-below (blocksOf g) p l in
+      rw (same .moved (p % 2) (p / 2) inside, same .dry (p / 2) inside, same .free (p % 2) (p / 2) inside, same .balances (p / 2) inside)
 
-  first-place-same : (code : ℕ) → firstPlace g slots β code ≡ firstPlace g slots γ code
+  first-place-same : (code : ℕ) → firstPlace g s β code ≡ firstPlace g t γ code
   unfolding firstPlace
-  first-place-same code = first-same (placesOf g) (countedBy g slots β code) (countedBy g slots γ code) (counted-same code)
+  first-place-same code = first-same (placesOf g) (countedBy g s β code) (countedBy g t γ code) (counted-same code)
 
-  count-of-same : (code : ℕ) → countOf g slots β code ≡ countOf g slots γ code
+  count-of-same : (code : ℕ) → countOf g s β code ≡ countOf g t γ code
   unfolding countOf
-  count-of-same code = count-same (placesOf g) (countedBy g slots β code) (countedBy g slots γ code) (counted-same code)
+  count-of-same code = count-same (placesOf g) (countedBy g s β code) (countedBy g t γ code) (counted-same code)
 
-  free-size-same : (p : ℕ) → p < placesOf g → freeSizeOf slots β p ≡ freeSizeOf slots γ p
+  free-size-same : (p : ℕ) → p < placesOf g → freeSizeOf s β p ≡ freeSizeOf t γ p
   unfolding freeSizeOf
-  free-size-same p l = rw (alike (p / 2) (block-below (blocksOf g) p l))
+  free-size-same p l =
+      let inside = block-below (blocksOf g) p l in
+      rw (same .free (p % 2) (p / 2) inside, same .balances (p / 2) inside)
 
-  largest-same : largestOf g slots β ≡ largestOf g slots γ
+  largest-same : largestOf g s β ≡ largestOf g t γ
   unfolding largestOf
-  largest-same = most-same (placesOf g) (freeSizeOf slots β) (freeSizeOf slots γ) free-size-same
+  largest-same = most-same (placesOf g) (freeSizeOf s β) (freeSizeOf t γ) free-size-same
 
-  pub verdict-same : verdictBy g slots β ≡ verdictBy g slots γ
+  pub verdict-by-places : verdictBy g s β ≡ verdictBy g t γ
   unfolding verdictBy concerning byBalance
-  verdict-same = rw (first-place-same 21, first-place-same 22, first-place-same 23, count-of-same 21, count-of-same 22, count-of-same 23, largest-same)
+  verdict-by-places = rw (first-place-same 21, first-place-same 22, first-place-same 23, count-of-same 21, count-of-same 22, count-of-same 23, largest-same)
+
+-- so the same blocks with the same balances have one verdict,
+pub verdict-by-blocks : (g : Grid) (s t : List ℤ) (β γ : ℕ → Fluids) → ((i : ℕ) → i < blocksOf g → blockOf s i ≡ blockOf t i) → ((i : ℕ) → i < blocksOf g → β i ≡ γ i) → verdictBy g s β ≡ verdictBy g t γ
+verdict-by-blocks g s t β γ blocks balances =
+    verdict-by-places g s t β γ
+    (record {
+      moved = λ fluid i l. moved-same s t i (blocks i l) fluid;
+      dry = λ i l. dry-same g s t i (blocks i l);
+      free = λ fluid i l. free-same s t i (blocks i l) fluid;
+      balances = balances;
+    })
+
+-- and the same slots have one for balances that are alike in every block
+pub verdict-same : (g : Grid) (slots : List ℤ) (β γ : ℕ → Fluids) → ((i : ℕ) → i < blocksOf g → β i ≡ γ i) → verdictBy g slots β ≡ verdictBy g slots γ
+verdict-same g slots β γ alike = verdict-by-blocks g slots slots β γ (λ i l. refl) alike
 
 -- ---- a refusal, or a verdict beside none
 

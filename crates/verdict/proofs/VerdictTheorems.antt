@@ -2,31 +2,40 @@
 -- Assumes nothing.
 use mathlib.Core.Bool.{Bool, false, true, true≢false}
 use mathlib.Core.List.{List}
-use mathlib.Core.Logic.{_↔_, _≢_, _⊎_, inl, inr}
+use mathlib.Core.Logic.{_↔_, _≢_, _⊎_, inl, inr, ⊎-elim}
 use mathlib.Core.Path.{_∙_, _≡_, ap, refl, subst, sym}
 use Prim.Native.Nat.{_%_, _*_, _+_, _/_, _<_, suc, zero, ℕ}
+use native.Mathlib.Decide.{ℕ-discrete}
 use native.Mathlib.Omega.{arith}
 use lib.Dec.{T}
 use lib.IntN.{pos, ℤ}
 use lib.Signed.{_≤ℤ_}
-use borrow.Author.Tests.{eq-eqb}
+use borrow.Author.Tests.{eq-eqb, ne-eqb}
 use Rattle.whole.specs.Sum.{count}
 use Rattle.whole.proofs.OrderLaws.{≤ℤ-antisymm}
 use Rattle.whole.proofs.SearchLaws.{holds, most-none, true-is}
 use Rattle.grid.specs.declared.Grid.{Grid}
+use Rattle.grid.specs.Inner.{Counted}
 use Rattle.grid.specs.Place.{blocksOf}
-use Rattle.slices.specs.Slices.{Case}
+use Rattle.slices.specs.Slices.{Case, caseOf, refusal}
+use Rattle.slices.specs.Inner.{Roomy}
+use Rattle.slices.proofs.SlicesLaws.{given-same}
 use Rattle.block.specs.declared.Fluids.{Fluids}
-use Rattle.block.specs.Fluids.{inFluid}
+use Rattle.block.specs.Fluids.{fresh, inFluid, salt}
+use Rattle.wellformed.specs.Meaning.{SlicesRefused}
 use Rattle.wellformed.specs.Limits.{checkedOf}
+use Rattle.wellformed.proofs.LimitsLaws.{checked-stands}
+use Rattle.wellformed.proofs.RoomLaws.{Alike, block-in-same, by-record, room-unread}
+use Rattle.wellformed.proofs.WellformedTheorems.{slices-refused-exactly}
 use Rattle.books.specs.Waters.{Wet, dryAt}
 use Rattle.balance.specs.Balance.{balancesOf}
+use Rattle.balance.proofs.SameLaws.{alike-cases, balances-same}
 use Rattle.verdict.specs.Acceptance.{Accepted, First, Nowhere}
 use Rattle.verdict.specs.Places.{countedAt, failsAt, freeAt, freeSizeOf, movedAt, placesOf, sizeOf}
-use Rattle.verdict.specs.Ruling.{verdictAnswer, blockNumber, byBalance, countOf, firstPlace, largestOf, verdictBy, verdictOf}
+use Rattle.verdict.specs.Ruling.{blockNumber, byBalance, countOf, firstPlace, largestOf, noVerdict, verdictAnswer, verdictBy, verdictOf}
 use Rattle.verdict.proofs.AcceptanceLaws.{bounds-all, dry-code, dry-none, failing-code, fails-counted, fails-none, first-as, first-told, largest-told, moved-code, moved-none, none-dry, none-fails, none-moved, passed-code, reached-all, told-first}
 use Rattle.verdict.proofs.PlacesLaws.{block-below, block-of, fluid-below, fluid-of, free-size-off, free-size-on, holds-within, size-least, still, unmoved, within-tolerance}
-use Rattle.verdict.proofs.RulingLaws.{Way, balance-block, balance-count, block-is, block-number, by-the-balances, count-failing, count-is, count-of-none, dry, dry-wells, failing, failing-counted, largest-is, moved, none-of-count, passed, way}
+use Rattle.verdict.proofs.RulingLaws.{Way, balance-block, balance-count, block-is, block-number, by-the-balances, count-failing, count-is, count-of-none, dry, dry-wells, failing, failing-counted, largest-is, moved, none-of-count, passed, verdict-by-blocks, way}
 
 module _ (g : Grid) (slots : List ℤ) (β : ℕ → Fluids) where
   -- ---- the code
@@ -227,7 +236,60 @@ module _ (g : Grid) (slots : List ℤ) (β : ℕ → Fluids) where
 
 -- ---- of a case in slices
 
--- Demand 2, of what the client is answered: heads of a case that is not refused are accepted exactly where document 01 accepts them.
-pub slices-accepted-exactly : (c : Case) → checkedOf c .number ≡ 0 → (verdictAnswer c .verdict .code ≡ 0) ↔ Accepted (c .grid) (c .slots) (balancesOf c)
+-- what is answered beside no refusal, and beside one
+judged-code : (c : Case) → checkedOf c .number ≡ 0 → verdictAnswer c .verdict .code ≡ verdictBy (c .grid) (c .slots) (balancesOf c) .code
 unfolding verdictAnswer verdictOf
-slices-accepted-exactly c e = rw (eq-eqb (checkedOf c .number) 0 e) (accepted-exactly (c .grid) (c .slots) (balancesOf c))
+judged-code c e = rw (eq-eqb (checkedOf c .number) 0 e)
+
+refused-code : (c : Case) → checkedOf c .number ≢ 0 → verdictAnswer c .verdict .code ≡ 20
+unfolding verdictAnswer
+refused-code c n = rw (ne-eqb (checkedOf c .number) 0 n)
+
+-- Demand 2, of what the client is answered: the code is 0 exactly where the case is not refused and document 01 accepts its heads.
+pub slices-accepted-exactly : (c : Case) → (verdictAnswer c .verdict .code ≡ 0) ↔ ((checkedOf c .number ≡ 0) × Accepted (c .grid) (c .slots) (balancesOf c))
+slices-accepted-exactly c = (told (ℕ-discrete (checkedOf c .number) 0), λ h. judged-code c (h .0) ∙ accepted .1 (h .1))
+  where
+    accepted : (verdictBy (c .grid) (c .slots) (balancesOf c) .code ≡ 0) ↔ Accepted (c .grid) (c .slots) (balancesOf c)
+    accepted = accepted-exactly (c .grid) (c .slots) (balancesOf c)
+
+    told : Dec (checkedOf c .number ≡ 0) → verdictAnswer c .verdict .code ≡ 0 → (checkedOf c .number ≡ 0) × Accepted (c .grid) (c .slots) (balancesOf c)
+    told (yes e) z = (e, accepted .0 (sym (judged-code c e) ∙ z))
+    told (no n) z = absurd (omega (arith, refused-code c n, z))
+
+-- The code alone tells whether a case was judged: it is 20 exactly where the case is refused.
+pub refused-exactly : (c : Case) → (verdictAnswer c .verdict .code ≡ 20) ↔ (checkedOf c .number ≢ 0)
+refused-exactly c = (λ z e. never e z, refused-code c)
+  where
+    never : checkedOf c .number ≡ 0 → verdictAnswer c .verdict .code ≡ 20 → ⊥
+    never e z =
+        ⊎-elim (λ k. omega arith) (⊎-elim (λ k. omega arith) (⊎-elim (λ k. omega arith) (⊎-elim (λ k. omega arith) (λ k. omega arith))))
+        (five-codes (c .grid) (c .slots) (balancesOf c) 20 (sym (judged-code c e) ∙ z))
+
+-- A verdict is refused with a number and a block exactly as the slices are.
+pub verdict-refused-exactly : (c : Case) (number block : ℕ) → number ≢ 0 → (verdictAnswer c .refusal ≡ refusal number block) ↔ SlicesRefused c true number block
+unfolding verdictAnswer
+verdict-refused-exactly c = slices-refused-exactly c
+
+-- ---- room
+
+-- cases of one record, alike in the numbers that it needs, have one verdict
+module _ (c : Case) (columns rows slots : List ℤ) (alike : Alike c (caseOf (c .grid) columns rows slots)) where
+  abbrev other : Case
+  other = caseOf (c .grid) columns rows slots
+
+  verdict-alike : Counted (c .grid) → verdictOf c ≡ verdictOf other
+  unfolding verdictOf
+  verdict-alike counted =
+      verdict-by-blocks (c .grid) (c .slots) slots (balancesOf c) (balancesOf other) (block-in-same c columns rows slots alike)
+      (balances-same counted (alike-cases c columns rows slots alike counted fresh) (alike-cases c columns rows slots alike counted salt))
+
+  answer-alike : Roomy c → Roomy other → verdictAnswer c ≡ verdictAnswer other
+  unfolding verdictAnswer
+  answer-alike m n =
+      let checked = room-unread c other m n alike in
+      λ k. record { refusal = checked k; verdict = given-same (verdictOf c) (verdictOf other) noVerdict checked (λ e. verdict-alike (checked-stands c e .judged .counted)) k }
+
+-- "Room beyond what is needed is not touched.", nor is it read: the verdict is told by the numbers that the record needs.
+pub verdict-room-unread : (c d : Case) → Roomy c → Roomy d → Alike c d → verdictAnswer c ≡ verdictAnswer d
+verdict-room-unread c d m n a =
+    by-record (λ d. Alike c d → Roomy d → verdictAnswer c ≡ verdictAnswer d) d (a .grid) (λ a n. answer-alike c (d .columns) (d .rows) (d .slots) a m n) a n

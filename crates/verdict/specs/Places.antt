@@ -1,5 +1,6 @@
 -- Places (document 01, "Balance, verdict, table"). A place is a block and a fluid; in block order, "fresh before salt in one block", place p is
--- block p / 2 in fluid p % 2. The balances of all blocks are a function β.
+-- block p / 2 in fluid p % 2: places 0 and 1 are the fresh and the salt one of block 0, 2 and 3 those of block 1, and so on. The balances of all blocks are
+-- a function β.
 use mathlib.Core.Bool.{Bool, _&&_, cond, not}
 use mathlib.Core.List.{List}
 use Prim.Native.Nat.{_%_, _*_, _/_, ℕ}

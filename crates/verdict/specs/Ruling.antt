@@ -37,19 +37,18 @@ abbrev pub codeOf : ℕ → ℕ
 codeOf zero = 0
 codeOf (suc p) = 23 + p % 2
 
--- the verdict 21 or 22: "A verdict has the code, the first block concerned (0 if accepted), how many places fail .., and the largest balance without sign"
+-- "A verdict has the code, the first block concerned (0 if accepted), how many places fail .., and the largest balance without sign": of the places that 21, 22
+-- or 23 counts
+abbrev pub verdictWith : Grid → List ℤ → (ℕ → Fluids) → ℕ → ℕ → ℤ → Verdict
+verdictWith g slots β counting code largest = record { code = code; block = blockNumber (firstPlace g slots β counting); count = countOf g slots β counting; largest = largest }
+
+-- the verdict 21 or 22
 unfoldable pub concerning : Grid → List ℤ → (ℕ → Fluids) → ℕ → Verdict
-concerning g slots β code = record { code = code; block = blockNumber (firstPlace g slots β code); count = countOf g slots β code; largest = pos 0 }
+concerning g slots β code = verdictWith g slots β code code (pos 0)
 
 -- the verdict where no head moved and no well is dry: "23 or 24 by the first place ..; else 0, accepted"
 unfoldable pub byBalance : Grid → List ℤ → (ℕ → Fluids) → Verdict
-byBalance g slots β =
-    record {
-      code = codeOf (firstPlace g slots β 23);
-      block = blockNumber (firstPlace g slots β 23);
-      count = countOf g slots β 23;
-      largest = largestOf g slots β;
-    }
+byBalance g slots β = verdictWith g slots β 23 (codeOf (firstPlace g slots β 23)) (largestOf g slots β)
 
 -- "21 if any fixed head moved from old to new; if not, 22 if any well is dry; if not, 23 or 24 by the first place ..; else 0, accepted"
 unfoldable pub verdictBy : Grid → List ℤ → (ℕ → Fluids) → Verdict
@@ -63,9 +62,9 @@ verdictOf c = verdictBy (c .grid) (c .slots) (balancesOf c)
 
 -- ---- of slices
 
--- what stands beside a refusal
+-- what stands beside a refusal: code 20, not judged, which is no code of document 01; by 0 a caller who looks at the code alone would read "accepted"
 abbrev pub noVerdict : Verdict
-noVerdict = record { code = 0; block = 0; count = 0; largest = pos 0 }
+noVerdict = record { code = 20; block = 0; count = 0; largest = pos 0 }
 
 -- a refusal, or the verdict beside none
 abbrev pub answered : Refusal → Verdict → Answer

@@ -8,10 +8,9 @@ ghost use Prim.Native.Nat.{_*_, _≤_};
 ghost use Rattle.grid.specs.Units.{mostBlocks};
 ghost use Rattle.grid.specs.Place.{blocksOf};
 ghost use Rattle.slices.specs.Slices.{caseOf};
-ghost use Rattle.wellformed.specs.Limits.{WellFormed};
-ghost use Rattle.books.specs.Rows.{pairOf};
-ghost use Rattle.books.specs.Waters.{Slotted, Watered};
-ghost use Rattle.balance.specs.Balance.{Bounded};
+ghost use Rattle.wellformed.specs.Inner.{WellFormed};
+ghost use Rattle.books.specs.Inner.{Slotted, Watered, pairOf};
+ghost use Rattle.balance.specs.Inner.{Bounded};
 ghost use Rattle.verdict.specs.Ruling.{
   firstPlace,
   codeOf,
@@ -32,6 +31,7 @@ use slices::Refusal;
 use units::DRY;
 use units::FAILING;
 use units::MOVED;
+use units::NOT_JUDGED;
 use wellformed::check_slices;
 
 // "A verdict has the code, the first block concerned (0 if accepted), how many places fail .., and the largest balance without sign among
@@ -43,15 +43,15 @@ pub struct Verdict {
     pub largest: i64,
 }
 
-// A refusal, or a verdict beside number 0. The verdict beside a refusal is all 0.
+// A refusal, or a verdict beside number 0. The verdict beside a refusal has code 20, not judged, and is otherwise all 0.
 pub struct Answer {
     pub refusal: Refusal,
     pub verdict: Verdict,
 }
 
-// What stands beside a refusal.
+// What stands beside a refusal: nothing is judged.
 pub const NO_VERDICT: Verdict = Verdict {
-    code: 0,
+    code: NOT_JUDGED,
     block: 0,
     count: 0,
     largest: 0,

@@ -2,11 +2,10 @@
 // salt in one block", place p is block p / 2 in fluid p % 2.
 ghost use mathlib.Core.Path.{_≡_};
 ghost use Prim.Native.Nat.{_<_};
-ghost use Rattle.whole.specs.Whole.{Abs};
+ghost use Rattle.whole.specs.Inner.{Abs};
 ghost use Rattle.grid.specs.Place.{blocksOf};
-ghost use Rattle.books.specs.Rows.{pairOf};
-ghost use Rattle.books.specs.Waters.{Slotted, Sound, Watered};
-ghost use Rattle.balance.specs.Balance.{mostBalance, Bounded};
+ghost use Rattle.books.specs.Inner.{Slotted, Sound, Watered, pairOf};
+ghost use Rattle.balance.specs.Inner.{mostBalance, Bounded};
 ghost use Rattle.verdict.specs.Places.{sizeOf, movedAt, freeAt, failsAt, countedAt, freeSizeOf, placesOf};
 use super::units::DRY;
 use super::units::MOVED;

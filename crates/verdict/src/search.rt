@@ -1,9 +1,8 @@
 // The places that a code counts: the first, how many, and the largest balance at a free place (document 01, "Balance, verdict, table").
 ghost use mathlib.Core.Path.{_≡_};
 ghost use Rattle.grid.specs.Place.{blocksOf};
-ghost use Rattle.books.specs.Rows.{pairOf};
-ghost use Rattle.books.specs.Waters.{Slotted, Watered};
-ghost use Rattle.balance.specs.Balance.{Bounded};
+ghost use Rattle.books.specs.Inner.{Slotted, Watered, pairOf};
+ghost use Rattle.balance.specs.Inner.{Bounded};
 ghost use Rattle.verdict.specs.Ruling.{firstPlace, countOf, largestOf};
 use super::places::counted_at;
 use super::places::free_size;

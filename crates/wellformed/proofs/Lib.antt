@@ -4,5 +4,7 @@ pub mod WidthsLaws
 pub mod LimitsLaws
 pub mod QuickLaws
 pub mod RoomLaws
+pub mod RefusedLaws
+pub mod WellformedTheorems
 pub mod WorkedTheorems
 pub mod OutcomeTheorems

@@ -1,4 +1,4 @@
--- What a case that is not refused gives: the law that it is well formed, and what follows for a face's flow. Assumes nothing.
+-- A case that is not refused is well formed, and the other way round, and what follows for a face's flow. Assumes nothing.
 use mathlib.Core.Bool.{Bool, _||_, false, true}
 use mathlib.Core.List.{[], _++_, _∷_}
 use mathlib.Core.Path.{_∙_, _≡_, ap, refl}
@@ -8,22 +8,25 @@ use lib.Dec.{T, leb}
 use lib.IntN.{pos, ℤ}
 use lib.Signed.{_≤ℤ_, ltZ}
 use Rattle.whole.proofs.OrderLaws.{≤ℤ-trans}
-use Rattle.whole.proofs.RangeLaws.{lt-false}
-use Rattle.whole.proofs.SearchLaws.{first-none, not-left, not-right, not-second, true-is}
+use Rattle.whole.proofs.RangeLaws.{lt-false, not-above}
+use Rattle.whole.proofs.SearchLaws.{first-none, neither, none-first, not-left, not-right, not-second, second-not, true-is}
 use Rattle.grid.specs.Judging.{countsHold}
 use Rattle.grid.specs.Place.{blocksOf, strideOf}
 use Rattle.grid.specs.Units.{nextRow}
 use Rattle.slices.specs.declared.Refusal.{Refusal}
-use Rattle.slices.specs.Slices.{Case, Judged, contentsOf, firstRefusal, judgedOf, lentOf, orElse, reachesOver, roomHolds, shapeOf, unless}
-use Rattle.slices.proofs.SlicesLaws.{blames-none, first-append, here, judged-apart, judged-stands, later, none-apart, none-together, or-none}
+use Rattle.slices.specs.Slices.{Case, contentsOf, firstRefusal, lentOf, orElse, roomHolds, shapeOf, unless}
+use Rattle.slices.specs.Inner.{Judged, judgedOf, reachesOver}
+use Rattle.slices.proofs.SlicesLaws.{blames-none, first-append, here, judged-apart, judged-stands, later, none-apart, none-together, or-none, stands-judged}
 use Rattle.block.specs.Fluids.{fresh, salt}
 use Rattle.block.specs.Geometry.{aquiferTopOf, kOf}
 use Rattle.flow.specs.declared.lateral.Behind.{Behind}
 use Rattle.flow.specs.declared.lateral.Side.{Side}
-use Rattle.flow.specs.Lateral.{BehindIn, SideIn, faceConductanceOf}
+use Rattle.flow.specs.Inner.{BehindIn, SideIn}
+use Rattle.flow.specs.Lateral.{faceConductanceOf}
 use Rattle.flow.specs.Litres.{mostConductance, overAreaOf}
 use Rattle.flow.proofs.LateralLaws.{through-most}
-use Rattle.wellformed.specs.Limits.{Conducts, WellFormed, aboveExceeds, atFault, blockExceeds, boundaryExceeds, checkedLent, checkedOf, eitherExceeds, exceeds, faceExceeds, firstAtFault, greatestOf, acrossIn, limitsOf, blockIn, overlaps}
+use Rattle.wellformed.specs.Inner.{Conducts, WellFormed}
+use Rattle.wellformed.specs.Limits.{aboveExceeds, atFault, blockExceeds, boundaryExceeds, checkedLent, checkedOf, eitherExceeds, exceeds, faceExceeds, firstAtFault, greatestOf, acrossIn, limitsOf, blockIn, overlaps}
 use Rattle.wellformed.specs.Links.{activeOf, liveOf}
 use Rattle.wellformed.specs.Widths.{areaOf, faceOf}
 use Rattle.wellformed.proofs.LinksLaws.{live-high, live-low, live-next, live-inside}
@@ -112,12 +115,45 @@ checked-stands c e =
       boundary = λ i l a. within-boundary c (h .1) i l a;
     }
 
+-- ---- and the other way round: a well-formed case is not refused
+
+module _ (c : Case) (formed : WellFormed c) (i : ℕ) (l : i < blocksOf (c .grid)) where
+  apart : overlaps c i ≡ false
+  unfolding overlaps
+  apart = second-not (liveOf (c .grid) (c .slots) 2 i) (ltZ (acrossIn c 2 i .base) (aquiferTopOf (blockIn c i))) (λ t. not-above (acrossIn c 2 i .base) (aquiferTopOf (blockIn c i)) (formed .stacked i l t))
+
+  face-below : (d : ℕ) → d ≤ nextRow → faceExceeds c d i ≡ false
+  unfolding faceExceeds eitherExceeds
+  face-below d h = second-not (liveOf (c .grid) (c .slots) d i) (eitherExceeds (c .grid) (faceOf c d i) (blockIn c i) (acrossIn c d i)) (λ t. neither _ _ (not-above _ _ (formed .lateral d i fresh h l t)) (not-above _ _ (formed .lateral d i salt h l t)))
+
+  above-below : aboveExceeds c i ≡ false
+  unfolding aboveExceeds
+  above-below = second-not (liveOf (c .grid) (c .slots) 2 i) (exceeds (overAreaOf (blockIn c i .leakance) (areaOf c i))) (λ t. not-above _ _ (formed .leakage i l t))
+
+  below : blockExceeds c i ≡ false
+  unfolding blockExceeds boundaryExceeds
+  below =
+      second-not (activeOf (c .slots) i) (faceExceeds c 0 i || (faceExceeds c 1 i || (aboveExceeds c i || boundaryExceeds c i)))
+      (λ t. neither _ _ (face-below 0 (omega arith)) (neither _ _ (face-below 1 (omega arith)) (neither _ _ above-below (not-above _ _ (formed .boundary i l t)))))
+
+-- 9 and 10 refuse nothing where no block is at fault
+limits-pass : (c : Case) → ((i : ℕ) → i < blocksOf (c .grid) → overlaps c i ≡ false) → ((i : ℕ) → i < blocksOf (c .grid) → blockExceeds c i ≡ false) → firstRefusal (limitsOf c) .number ≡ 0
+unfolding limitsOf firstAtFault atFault firstRefusal orElse
+limits-pass c h k = rw (none-first (overlaps c) (blocksOf (c .grid)) h, none-first (blockExceeds c) (blocksOf (c .grid)) k) refl
+
+pub stands-checked : (c : Case) → WellFormed c → checkedOf c .number ≡ 0
+stands-checked c formed = none-together (shapeOf c ++ contentsOf c) (limitsOf c) (stands-judged c (formed .judged)) (limits-pass c (apart c formed) (below c formed))
+
 -- ---- more is lent than the case itself
 
 -- nothing more
 pub lent-reaches : (c : Case) → checkedLent c true ≡ checkedOf c
 unfolding lentOf shapeOf firstRefusal orElse
 lent-reaches c = refl
+
+-- or what is long enough
+pub lent-long : (c : Case) (reaches : Bool) → T reaches → checkedLent c reaches ≡ checkedOf c
+lent-long c reaches t = ap (checkedLent c) (true-is {b = reaches} t) ∙ lent-reaches c
 
 -- whether it is long enough is asked where the counts are in range: 3 comes first
 lent-same : (c : Case) (a b : Bool) → (T (countsHold (c .grid)) → a ≡ b) → checkedLent c a ≡ checkedLent c b
@@ -137,16 +173,16 @@ lent-reached c f each room need e =
     lent-same c (f (reachesOver (c .grid) each room)) (f (leb need room))
     (λ t. ap f (rw (true-is {b = countsHold (c .grid)} t) (ap (λ (n : ℕ). leb n room) e)))
 
--- where nothing is refused, the case itself is not, and all is long enough
-pub lent-stands : (c : Case) (reaches : Bool) → checkedLent c reaches .number ≡ 0 → (checkedOf c .number ≡ 0) × T reaches
+-- where nothing is refused, the case is well formed, and all is long enough
+pub lent-stands : (c : Case) (reaches : Bool) → checkedLent c reaches .number ≡ 0 → WellFormed c × T reaches
 lent-stands c reaches e =
     let h = none-apart (lentOf c reaches ++ contentsOf c) (limitsOf c) e in
     let judged = judged-apart c reaches (h .0) in
-    (none-together (shapeOf c ++ contentsOf c) (limitsOf c) (judged .0) (h .1), judged .1)
+    (checked-stands c (none-together (shapeOf c ++ contentsOf c) (limitsOf c) (judged .0) (h .1)), judged .1)
 
 -- and the other way round
-pub stands-lent : (c : Case) (reaches : Bool) → checkedOf c .number ≡ 0 → T reaches → checkedLent c reaches .number ≡ 0
-stands-lent c reaches e t = ap (λ b. checkedLent c b .number) (true-is {b = reaches} t) ∙ ap (λ r. r .number) (lent-reaches c) ∙ e
+pub stands-lent : (c : Case) (reaches : Bool) → WellFormed c → T reaches → checkedLent c reaches .number ≡ 0
+stands-lent c reaches formed t = ap (λ r. r .number) (lent-long c reaches t) ∙ stands-checked c formed
 
 -- In a well-formed case no face conducts beyond the limit, whatever of the two aquifers the fluid fills.
 pub face-passes :

@@ -8,7 +8,8 @@ use lib.Dec.{T}
 use lib.IntN.{ℤ}
 use Rattle.whole.proofs.SearchLaws.{both, joint}
 use Rattle.grid.specs.declared.Grid.{Grid}
-use Rattle.grid.specs.Place.{nextOf, strideOf, Counted, blocksOf}
+use Rattle.grid.specs.Place.{nextOf, strideOf, blocksOf}
+use Rattle.grid.specs.Inner.{Counted}
 use Rattle.grid.proofs.PlaceLaws.{next-inside}
 use Rattle.wellformed.specs.Links.{activeOf, liveOf}
 

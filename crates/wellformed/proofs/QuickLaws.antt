@@ -1,16 +1,16 @@
 -- A face that is far within the limit exceeds it in neither fluid. Assumes nothing.
-use mathlib.Core.Bool.{Bool, false, true}
+use mathlib.Core.Bool.{false, true}
 use mathlib.Core.List.{[], _∷_}
-use mathlib.Core.Path.{_≡_, refl, subst}
+use mathlib.Core.Path.{_≡_, subst}
 use Prim.Native.Nat.{suc, zero, ℕ}
 use native.Mathlib.Omega.{arith}
 use lib.IntN.{_*ℤ_, _+ℤ_, pos, ℤ}
-use lib.Signed.{_<ℤ_, _≤ℤ_, leZ-yes, ltZ}
+use lib.Signed.{_<ℤ_, _≤ℤ_, leZ-yes}
 use Rattle.whole.specs.Whole.{floorOf, maxℤ}
 use Rattle.whole.proofs.DivisionLaws.{floor-<}
-use Rattle.whole.proofs.LinearLaws.{#, from2, signed}
+use Rattle.whole.proofs.LinearLaws.{#, from1, from2, signed}
 use Rattle.whole.proofs.OrderLaws.{maxℤ-l, maxℤ-r, mul-mono, ≤ℤ-trans}
-use Rattle.whole.proofs.RangeLaws.{leaf, lt-true, no-less, ranges}
+use Rattle.whole.proofs.RangeLaws.{leaf, lt-true, no-less, not-above, ranges}
 use Rattle.whole.proofs.RingLaws.{polynomials, ring}
 use Rattle.grid.specs.declared.Grid.{Grid}
 use Rattle.slots.specs.declared.Block.{Block}
@@ -21,16 +21,14 @@ use Rattle.block.proofs.BlockLaws.{k-in-range}
 use Rattle.block.proofs.DensityLaws.{salt-k-most}
 use Rattle.flow.specs.declared.lateral.Face.{Face}
 use Rattle.flow.specs.Lateral.{conductanceOf, faceKOf}
-use Rattle.flow.specs.Litres.{mostConductance, overConductance}
+use Rattle.flow.specs.Litres.{mostConductance}
+use Rattle.flow.specs.Inner.{overConductance}
 use Rattle.flow.proofs.LateralLaws.{face-k-most}
-use Rattle.wellformed.specs.Limits.{Conducts, eitherExceeds, exceeds, farWithin, greatestOf}
+use Rattle.wellformed.specs.Inner.{Conducts, farWithin}
+use Rattle.wellformed.specs.Limits.{eitherExceeds, exceeds, greatestOf}
 
 not-over : (z : ℤ) → z <ℤ pos overConductance → exceeds z ≡ false
-not-over z l = go (exceeds z) refl
-  where
-    go : (b : Bool) → exceeds z ≡ b → b ≡ false
-    go false e = refl
-    go true e = absurd (from2 (lt-true (pos mostConductance) z e) l (search (signed, # z) depth 30) (omega arith))
+not-over z l = not-above (pos mostConductance) z (from1 l (search (signed, # z) depth 30) (omega arith))
 
 module _ (g : Grid) (f : Face) (a b : Block) (h : Conducts g f a b) (quick : farWithin f (maxℤ (a .k) (b .k)) (maxℤ (a .thickness) (b .thickness)) ≡ true) where
   abbrev most : ℤ

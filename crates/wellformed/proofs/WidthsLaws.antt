@@ -5,15 +5,18 @@ use Prim.Native.Nat.{_+_, _<_, _≤_, suc, zero, ℕ}
 use native.Mathlib.Omega.{arith}
 use lib.Dec.{T, ltb→lt}
 use lib.IntN.{pos, ℤ}
-use Rattle.whole.specs.Whole.{In}
+use Rattle.whole.specs.Inner.{In}
 use Rattle.whole.proofs.RangeLaws.{leaf, ranges, within}
 use Rattle.grid.specs.declared.place.Place.{Place}
-use Rattle.grid.specs.Place.{Inside, blocksOf, coordinateOf, hasNext, nextOf, placeOf, strideOf}
+use Rattle.grid.specs.Inner.{Inside}
+use Rattle.grid.specs.Place.{blocksOf, coordinateOf, hasNext, nextOf, placeOf, strideOf}
 use Rattle.grid.proofs.PlaceLaws.{link-beside, next-inside, place-inside}
-use Rattle.slices.specs.Slices.{Case, Judged}
-use Rattle.block.specs.Units.{mostArea}
-use Rattle.flow.specs.Lateral.{FaceIn}
-use Rattle.wellformed.specs.Widths.{Onward, Placed, alongOf, areaAt, faceOf, widthAt}
+use Rattle.slices.specs.Slices.{Case}
+use Rattle.slices.specs.Inner.{Judged}
+use Rattle.block.specs.Inner.{mostArea}
+use Rattle.flow.specs.Inner.{FaceIn}
+use Rattle.wellformed.specs.Inner.{Onward, Placed}
+use Rattle.wellformed.specs.Widths.{alongOf, areaAt, faceOf, widthAt}
 
 module _ (c : Case) (judged : Judged c) (i : ℕ) (l : i < blocksOf (c .grid)) where
   inside : Inside (c .grid) (placeOf (c .grid) i)

@@ -5,14 +5,16 @@ use Rattle.whole.specs.Ranges.{inRange}
 use Rattle.whole.specs.Search.{firstOf}
 use Rattle.grid.specs.Place.{hasNext, nextOf, placeOf}
 use Rattle.slots.specs.Slots.{slotsAt}
-use Rattle.slices.specs.Slices.{contentsOf, firstRefusal, judgedOf, none, orElse, shapeOf}
+use Rattle.slices.specs.Slices.{contentsOf, firstRefusal, none, orElse, shapeOf}
+use Rattle.slices.specs.Inner.{judgedOf}
 use Rattle.slices.proofs.SlicesLaws.{first-append, or-next}
 use Rattle.slices.proofs.WorkedTheorems.{printed-case-passes, printedCase}
 use Rattle.block.specs.Density.{saltKOf}
 use Rattle.block.specs.Geometry.{aquiferTopOf}
 use Rattle.flow.specs.Lateral.{conductanceOf, faceKOf}
 use Rattle.flow.specs.Litres.{overAreaOf}
-use Rattle.wellformed.specs.Limits.{WellFormed, aboveExceeds, atFault, blockExceeds, boundaryExceeds, eitherExceeds, faceExceeds, firstAtFault, greatestOf, limitsOf, overlaps}
+use Rattle.wellformed.specs.Inner.{WellFormed}
+use Rattle.wellformed.specs.Limits.{aboveExceeds, atFault, blockExceeds, boundaryExceeds, eitherExceeds, faceExceeds, firstAtFault, greatestOf, limitsOf, overlaps}
 use Rattle.wellformed.specs.Links.{liveOf}
 use Rattle.wellformed.specs.Widths.{areaAt}
 use Rattle.wellformed.proofs.LimitsLaws.{checked-stands}

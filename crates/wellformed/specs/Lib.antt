@@ -2,3 +2,5 @@
 pub mod Widths
 pub mod Links
 pub mod Limits
+pub mod Inner
+pub mod Meaning

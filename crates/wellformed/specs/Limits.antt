@@ -1,26 +1,24 @@
 -- Refusals 9 and 10, and with them what slices are refused with in all: "Slices are judged 3, 7, 4, 5, 6, 9, 10" (document 01, "Refusal numbers").
 use mathlib.Core.Bool.{Bool, _&&_, _||_, cond}
 use mathlib.Core.List.{List, [], _++_, _∷_}
-use Prim.Native.Nat.{_+_, _<_, _≤_, ℕ}
-use lib.Dec.{T, eqb}
-use lib.IntN.{_*ℤ_, _+ℤ_, pos, ℤ}
-use lib.Signed.{_≤ℤ_, ltZ}
+use Prim.Native.Nat.{_+_, ℕ}
+use lib.Dec.{eqb}
+use lib.IntN.{pos, ℤ}
+use lib.Signed.{ltZ}
 use Rattle.whole.specs.Search.{firstOf}
 use Rattle.whole.specs.Whole.{maxℤ}
 use Rattle.grid.specs.declared.Grid.{Grid}
-use Rattle.grid.specs.Judging.{Termed}
 use Rattle.grid.specs.Place.{blocksOf, strideOf}
 use Rattle.grid.specs.Units.{above, nextColumn, nextRow}
 use Rattle.slots.specs.declared.Block.{Block}
-use Rattle.slots.specs.Slots.{Ends, blockOf}
+use Rattle.slots.specs.Slots.{blockOf}
 use Rattle.slices.specs.declared.Refusal.{Refusal}
-use Rattle.slices.specs.Slices.{Case, Judged, blaming, contentsOf, firstRefusal, lentOf, shapeOf}
+use Rattle.slices.specs.Slices.{Case, blaming, contentsOf, firstRefusal, lentOf, shapeOf}
 use Rattle.block.specs.Fluids.{fresh, salt}
 use Rattle.block.specs.Geometry.{aquiferTopOf, kOf}
-use Rattle.block.specs.Units.{ticks}
 use Rattle.flow.specs.declared.lateral.Face.{Face}
-use Rattle.flow.specs.Lateral.{FaceIn, conductanceOf, faceKOf}
-use Rattle.flow.specs.Litres.{mostConductance, overAreaOf, overConductance}
+use Rattle.flow.specs.Lateral.{conductanceOf, faceKOf}
+use Rattle.flow.specs.Litres.{mostConductance, overAreaOf}
 use Rattle.wellformed.specs.Links.{activeOf, liveOf}
 use Rattle.wellformed.specs.Widths.{areaOf, faceOf}
 
@@ -47,11 +45,6 @@ greatestOf g f a b fluid = conductanceOf f (faceKOf f (kOf g a fluid) (kOf g b f
 unfoldable pub eitherExceeds : Grid → Face → Block → Block → Bool
 eitherExceeds g f a b = exceeds (greatestOf g f a b fresh) || exceeds (greatestOf g f a b salt)
 
--- A face is far within the limit of 10 by the greater K and the greater aquifer thickness alone: Kf is at most twice that K in either fluid, and a quotient stays
--- below a number where the dividend stays below the number times the divisor. A way to the answer, and no rule of its own.
-unfoldable pub farWithin : Face → ℤ → ℤ → Bool
-farWithin f K B = ltZ (pos 4 *ℤ K *ℤ B *ℤ f .across) (pos overConductance *ℤ ((f .low +ℤ f .high) *ℤ pos ticks))
-
 -- "10 counts faces between active blocks to the next column, next row"
 unfoldable pub faceExceeds : Case → ℕ → ℕ → Bool
 faceExceeds c d i = liveOf (c .grid) (c .slots) d i && eitherExceeds (c .grid) (faceOf c d i) (blockIn c i) (acrossIn c d i)
@@ -60,7 +53,7 @@ faceExceeds c d i = liveOf (c .grid) (c .slots) d i && eitherExceeds (c .grid) (
 unfoldable pub aboveExceeds : Case → ℕ → Bool
 aboveExceeds c i = liveOf (c .grid) (c .slots) above i && exceeds (overAreaOf (blockIn c i .leakance) (areaOf c i))
 
--- "and the boundary"; a block without a river or a sea has leakance 0 there
+-- "and the boundary". It is asked of every active block: one without a river or a sea has leakance 0 there, or is refused before, with 6
 unfoldable pub boundaryExceeds : Case → ℕ → Bool
 boundaryExceeds c i = exceeds (overAreaOf (blockIn c i .«boundary_leakance») (areaOf c i))
 
@@ -93,23 +86,3 @@ lentChecksOf c reaches = (lentOf c reaches ++ contentsOf c) ++ limitsOf c
 
 abbrev pub checkedLent : Case → Bool → Refusal
 checkedLent c reaches = firstRefusal (lentChecksOf c reaches)
-
--- ---- what is required of two active blocks and their face
-
-pub record Conducts (g : Grid) (f : Face) (a b : Block) : Type 0 where
-  pub termed : Termed g
-  pub face : FaceIn f
-  pub low : Ends a
-  pub high : Ends b
-  pub low-some : pos 1 ≤ℤ a .k
-  pub high-some : pos 1 ≤ℤ b .k
-
--- ---- what later parts require of a case: what it is not refused for
-
--- it is not refused by 3, 7, 4, 5 and 6; by 9; by 10 for a face in either fluid, for leakage and for the boundary
-pub record WellFormed (c : Case) : Type 0 where
-  pub judged : Judged c
-  pub stacked : (i : ℕ) → i < blocksOf (c .grid) → T (liveOf (c .grid) (c .slots) above i) → aquiferTopOf (blockIn c i) ≤ℤ acrossIn c above i .base
-  pub lateral : (d i fluid : ℕ) → d ≤ nextRow → i < blocksOf (c .grid) → T (liveOf (c .grid) (c .slots) d i) → greatestOf (c .grid) (faceOf c d i) (blockIn c i) (acrossIn c d i) fluid ≤ℤ pos mostConductance
-  pub leakage : (i : ℕ) → i < blocksOf (c .grid) → T (liveOf (c .grid) (c .slots) above i) → overAreaOf (blockIn c i .leakance) (areaOf c i) ≤ℤ pos mostConductance
-  pub boundary : (i : ℕ) → i < blocksOf (c .grid) → T (activeOf (c .slots) i) → overAreaOf (blockIn c i .«boundary_leakance») (areaOf c i) ≤ℤ pos mostConductance

@@ -1,14 +1,13 @@
 -- Widths and areas of a case's blocks (document 01, "A lateral face"): along a row L are column widths and W is the row width, along a column
 -- the other way round. Axis 0 leads along a row, 1 along a column.
 use mathlib.Core.List.{List}
-use Prim.Native.Nat.{_+_, _<_, suc, zero, ℕ}
+use Prim.Native.Nat.{_+_, suc, zero, ℕ}
 use lib.IntN.{_*ℤ_, pos, ℤ}
-use lib.ListN.{getD, length}
+use lib.ListN.{getD}
 use Rattle.grid.specs.declared.place.Place.{Place}
 use Rattle.grid.specs.Place.{placeOf}
 use Rattle.slices.specs.Slices.{Case}
 use Rattle.flow.specs.declared.lateral.Face.{Face}
-use Rattle.flow.specs.Lateral.{Width}
 
 -- the width of a column, and of a row, in metres
 abbrev pub widthAt : List ℤ → ℕ → ℤ
@@ -38,15 +37,3 @@ faceOf c d i = faceAt (c .columns) (c .rows) (placeOf (c .grid) i) d
 
 abbrev pub areaOf : Case → ℕ → ℤ
 areaOf c i = areaAt (c .columns) (c .rows) (placeOf (c .grid) i)
-
--- ---- what is required of a place: it has widths, and so has the next one along an axis
-
-pub record Placed (columns rows : List ℤ) (p : Place) : Type 0 where
-  pub column : p .column < length columns
-  pub row : p .row < length rows
-  pub column-width : Width (widthAt columns (p .column))
-  pub row-width : Width (widthAt rows (p .row))
-
-abbrev pub Onward : List ℤ → List ℤ → Place → ℕ → Type 0
-Onward columns rows p zero = p .column + 1 < length columns
-Onward columns rows p (suc d) = p .row + 1 < length rows

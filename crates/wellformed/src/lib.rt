@@ -5,7 +5,8 @@ pub mod links;
 pub mod widths;
 
 ghost use mathlib.Core.Path.{_≡_};
-ghost use Rattle.slices.specs.Slices.{caseOf, firstRefusal, Judged};
+ghost use Rattle.slices.specs.Slices.{caseOf, firstRefusal};
+ghost use Rattle.slices.specs.Inner.{Judged};
 ghost use Rattle.wellformed.specs.Limits.{limitsOf, checkedOf, checkedLent};
 use grid::Grid;
 use limits::first_at_fault;

@@ -3,28 +3,17 @@ ghost use mathlib.Core.Path.{_≡_};
 ghost use mathlib.Core.Bool.{true};
 ghost use Prim.Native.Nat.{_≤_, _<_};
 ghost use lib.IntN.{pos};
-ghost use Rattle.whole.specs.Whole.{In};
+ghost use Rattle.whole.specs.Inner.{In};
 ghost use Rattle.grid.specs.Place.{blocksOf, placeOf};
 ghost use Rattle.slots.specs.Units.{mostK, mostLeakance, mostThickness};
-ghost use Rattle.flow.specs.Lateral.{FaceIn};
-ghost use Rattle.slices.specs.Slices.{caseOf, Judged};
+ghost use Rattle.flow.specs.Inner.{FaceIn};
+ghost use Rattle.slices.specs.Slices.{caseOf};
+ghost use Rattle.slices.specs.Inner.{Judged};
 ghost use Rattle.flow.specs.Litres.{overAreaOf};
-ghost use Rattle.wellformed.specs.Widths.{areaAt, Placed};
+ghost use Rattle.wellformed.specs.Widths.{areaAt};
+ghost use Rattle.wellformed.specs.Inner.{Conducts, Placed, farWithin};
 ghost use Rattle.wellformed.specs.Links.{activeOf};
-ghost use Rattle.wellformed.specs.Limits.{
-  exceeds,
-  greatestOf,
-  eitherExceeds,
-  farWithin,
-  overlaps,
-  faceExceeds,
-  aboveExceeds,
-  boundaryExceeds,
-  blockExceeds,
-  atFault,
-  firstAtFault,
-  Conducts,
-};
+ghost use Rattle.wellformed.specs.Limits.{exceeds, greatestOf, eitherExceeds, overlaps, faceExceeds, aboveExceeds, boundaryExceeds, blockExceeds, atFault, firstAtFault};
 use super::links::is_live;
 use super::widths::area;
 use super::widths::face;

@@ -2,7 +2,8 @@
 ghost use mathlib.Core.Path.{_≡_};
 ghost use Prim.Native.Nat.{_*_, _≤_, _<_};
 ghost use lib.ListN.{length};
-ghost use Rattle.grid.specs.Place.{Counted, blocksOf, placeOf};
+ghost use Rattle.grid.specs.Inner.{Counted};
+ghost use Rattle.grid.specs.Place.{blocksOf, placeOf};
 ghost use Rattle.wellformed.specs.Links.{liveOf};
 use grid::Grid;
 use grid::place::Place;

@@ -1,6 +1,7 @@
 // Widths and areas of a case's blocks (document 01, "A lateral face": "widths L1, L2 along the line and W across").
 ghost use mathlib.Core.Path.{_≡_};
-ghost use Rattle.wellformed.specs.Widths.{alongAt, faceAt, areaAt, Placed, Onward};
+ghost use Rattle.wellformed.specs.Widths.{alongAt, faceAt, areaAt};
+ghost use Rattle.wellformed.specs.Inner.{Placed, Onward};
 use flow::lateral::Face;
 use grid::place::Place;
 use grid::units::NEXT_COLUMN;

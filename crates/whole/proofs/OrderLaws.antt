@@ -8,7 +8,8 @@ use mathlib.Core.Bool.{not}
 use lib.Dec.{T, T-not, eqb→eq}
 use lib.IntN.{ℤ, pos, negsuc, negℤ, natAbs, _-ℤ_, _*ℤ_, *ℤ-comm}
 use lib.Signed.{_≤ℤ_, _<ℤ_, leZ, leZ-yes, ≤ℤ-refl}
-use Rattle.whole.specs.Whole.{isZero, minℤ, maxℤ, clampOf, Abs}
+use Rattle.whole.specs.Whole.{isZero, minℤ, maxℤ, clampOf}
+use Rattle.whole.specs.Inner.{Abs}
 use Rattle.whole.proofs.Parts.{plus, minus, le-out, le-in, lt-in, cond-ind}
 use Rattle.whole.proofs.LinearLaws.{linear, from1, from2, signed, sizes, #}
 

@@ -12,12 +12,13 @@ use Prim.Native.Nat.{ℕ, _-_, _^_, _<_}
 use native.Mathlib.Omega.{arith}
 use lib.Dec.{T}
 use lib.IntN.{ℤ, pos, negsuc, negℤ, _+ℤ_, _-ℤ_, _*ℤ_, natAbs, +ℤ-idl}
-use lib.Signed.{_≤ℤ_, _<ℤ_, leZ, ltZ, leZ-yes, ≤ℤ-refl, mag, ltZ-yes, ltZ-no, nonNeg, yes-nonNeg}
+use lib.Signed.{_≤ℤ_, _<ℤ_, clashℤ, leZ, ltZ, leZ-yes, ≤ℤ-refl, mag, ltZ-yes, ltZ-no, nonNeg, yes-nonNeg}
 use mir.Syntax.{w64}
 use mir.Val.{SFits, Fits, toZ, ofZ}
 use mir.Facts.{fits-natAbs}
 use mir.ValLaws.{toZ-ofZ}
-use Rattle.whole.specs.Whole.{In, minℤ, maxℤ, floorOf, cutOf}
+use Rattle.whole.specs.Inner.{In}
+use Rattle.whole.specs.Whole.{minℤ, maxℤ, floorOf, cutOf}
 use Rattle.whole.proofs.SearchLaws.{both, holds}
 use Rattle.whole.proofs.LinearLaws.{linear, from1, from4, signed, #}
 use Rattle.whole.proofs.OrderLaws.{≤ℤ-trans, nle-lt, minℤ-l, minℤ-r, maxℤ-l, maxℤ-r, ≤-minℤ, maxℤ-≤, mulLow, mulHigh, mul-low, mul-high, neg-le}
@@ -273,6 +274,13 @@ lt-true x y e = ltZ-yes (holds e)
 
 pub lt-false : (x y : ℤ) → ltZ x y ≡ false → y ≤ℤ x
 lt-false x y e = ltZ-no (subst (λ t. T (not t)) (sym e) tt)
+
+pub not-above : (x y : ℤ) → y ≤ℤ x → ltZ x y ≡ false
+not-above x y h = go (ltZ x y) refl
+  where
+    go : (b : Bool) → ltZ x y ≡ b → b ≡ false
+    go true e = clashℤ (lt-true x y e) h
+    go false e = refl
 
 pub le-true : (x y : ℤ) → leZ x y ≡ true → x ≤ℤ y
 le-true x y e = leZ-yes (holds e)

@@ -57,6 +57,15 @@ pub not-second : (a b : Bool) → (a && b) ≡ false → T a → b ≡ false
 not-second true b e t = e
 not-second false b e t = absurd t
 
+-- and neither of two, nor both of them
+pub neither : (a b : Bool) → a ≡ false → b ≡ false → (a || b) ≡ false
+neither true b e f = e
+neither false b e f = f
+
+pub second-not : (a b : Bool) → (T a → b ≡ false) → (a && b) ≡ false
+second-not true b h = h tt
+second-not false b h = refl
+
 -- one of two, by a test
 pub cond-true : (c a b : Bool) → T (cond c a b) → T c → T a
 cond-true true a b t u = t

@@ -11,7 +11,7 @@ use native.Mathlib.Decide.{ℕ-discrete, decLe, decLt}
 use lib.IntN.{ℤ, pos, negℤ, natAbs, _+ℤ_, _-ℤ_, +ℤ-idl, +ℤ-idr, negℤ-+ℤ}
 use lib.Signed.{_≤ℤ_, ≤ℤ-refl}
 use lib.Dec.{T, leb, eqb, leb→le, le→leb, eqb→eq, eqb-refl}
-use Rattle.whole.specs.Whole.{Abs}
+use Rattle.whole.specs.Inner.{Abs}
 use Rattle.whole.specs.Sum.{only, sum, back, count}
 use Rattle.whole.proofs.LinearLaws.{linear, from2, signed, sizes, #}
 use Rattle.whole.proofs.OrderLaws.{abs-in, in-abs, abs-zero}

@@ -10,8 +10,8 @@ use lib.ListN.{getD}
 use lib.Signed.{_<ℤ_, clashℤ, leZ, leZ-yes}
 use Rattle.whole.specs.declared.ranges.Range.{Range}
 use Rattle.whole.specs.Ranges.{allWithin, inRange}
-use Rattle.whole.specs.Whole.{In}
-use Rattle.whole.proofs.SearchLaws.{both, every-all, joint, true-is, holds}
+use Rattle.whole.specs.Inner.{In}
+use Rattle.whole.proofs.SearchLaws.{both, every-all, every-passes, holds, joint, true-is}
 
 pub range-in : (r : Range) (v : ℤ) → T (inRange r v) → In (r .lower) (r .upper) v
 unfolding inRange
@@ -34,3 +34,8 @@ out-ranged r v out = go (inRange r v) refl
 pub within-at : (r : Range) (values : List ℤ) (n : ℕ) → T (allWithin r values n) → (k : ℕ) → k < n → In (r .lower) (r .upper) (getD values k (pos 0))
 unfolding allWithin
 within-at r values n t k l = range-in r (getD values k (pos 0)) (every-all (λ k. inRange r (getD values k (pos 0))) n t k l)
+
+-- and so they are all within, where each is
+pub within-all : (r : Range) (values : List ℤ) (n : ℕ) → ((k : ℕ) → k < n → In (r .lower) (r .upper) (getD values k (pos 0))) → allWithin r values n ≡ true
+unfolding allWithin
+within-all r values n h = every-passes (λ k. inRange r (getD values k (pos 0))) n (λ k l. holds (in-ranged r (getD values k (pos 0)) (h k l)))

@@ -5,3 +5,4 @@ pub mod Search
 pub mod Ranges
 pub mod Lent
 pub mod Outcome
+pub mod Inner

@@ -1,9 +1,9 @@
 -- Whole numbers (document 01, "Units and ranges").
-use Prim.Native.Nat.{ℕ, _/_}
+use Prim.Native.Nat.{_/_}
 use mathlib.Core.Bool.{Bool, false, cond}
 use lib.Dec.{eqb}
-use lib.IntN.{ℤ, pos, negsuc, negℤ, natAbs}
-use lib.Signed.{_≤ℤ_, leZ, quotZ}
+use lib.IntN.{ℤ, pos, negsuc, natAbs}
+use lib.Signed.{leZ, quotZ}
 
 -- "Floor means toward minus infinity": z / d for a divisor d of 1 or more. `negsuc a` is -1 - a, and its floor is -1 - a / d.
 abbrev pub floorOf : ℤ → ℤ → ℤ
@@ -29,12 +29,3 @@ maxℤ a b = cond (leZ a b) b a
 -- z held between low and high; low where the two are the wrong way round
 unfoldable pub clampOf : ℤ → ℤ → ℤ → ℤ
 clampOf low high z = maxℤ low (minℤ z high)
-
--- lo ≤ z ≤ hi
-pub record In (lo hi z : ℤ) : Type 0 where
-  pub low : lo ≤ℤ z
-  pub high : z ≤ℤ hi
-
--- at most m from 0
-abbrev pub Abs : ℕ → ℤ → Type 0
-Abs m z = In (negℤ (pos m)) (pos m) z

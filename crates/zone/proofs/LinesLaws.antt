@@ -15,7 +15,8 @@ use Rattle.whole.proofs.OrderLaws.{<ℤ-≤ℤ, maxℤ-left, maxℤ-right, ≤�
 use Rattle.whole.proofs.SearchLaws.{both, holds, joint, same-test}
 use Rattle.whole.proofs.SumLaws.{only-add, only-back, only-off, only-sum, only-zero, sum-add, sum-less-add, sum-move, sum-same, sum-swap}
 use Rattle.grid.specs.declared.Grid.{Grid}
-use Rattle.grid.specs.Place.{Counted, blocksOf, strideOf}
+use Rattle.grid.specs.Inner.{Counted}
+use Rattle.grid.specs.Place.{blocksOf, strideOf}
 use Rattle.grid.specs.Units.{above}
 use Rattle.slices.specs.Slices.{Case}
 use Rattle.wellformed.specs.Links.{activeOf, liveOf}
@@ -26,11 +27,12 @@ use Rattle.balance.specs.Balance.{balanceIn, flowsOf, throughOf}
 use Rattle.balance.proofs.SameLaws.{SameBooks, SameCases, balance-same, books-same}
 use Rattle.zone.specs.declared.lines.Lines.{Lines}
 use Rattle.zone.specs.Accounts.{crossed}
-use Rattle.zone.specs.Exchange.{atEdge, changes, convertedAt, edgeOf, edgesOf, inflowOf, outflowOf}
+use Rattle.zone.specs.Inner.{atEdge, termsOf, totalsOf}
+use Rattle.zone.specs.Exchange.{changes, convertedAt, edgeOf, edgesOf, inflowOf, outflowOf, toOneSide}
 use Rattle.zone.specs.Holdings.{nothing, ownIn, settledOf}
-use Rattle.zone.specs.Table.{linesBy, linesOf, termsOf, totalsOf}
+use Rattle.zone.specs.Table.{linesBy, linesOf}
 use Rattle.zone.specs.Zones.{differ, inZone}
-use Rattle.zone.proofs.TermLaws.{converted-is, no-gain, settled-same}
+use Rattle.zone.proofs.TermLaws.{converted-is, edge-at, no-gain, settled-same}
 
 -- ---- one link
 
@@ -56,7 +58,7 @@ turnedAt : Grid → Books → (ℕ → Bool) → ℕ → ℕ → ℤ
 turnedAt g F z d i = only ((z i && z (i + strideOf g d)) && differ (F .lowIs d i) (F .highIs d i)) (broughtOf F true d i +ℤ broughtOf F false d i)
 
 -- a and b are the marks of its low and its high side, and x is what it brings to each
-by-marks : (a b turns : Bool) (x : Bool → ℤ) → (T (not turns) → x true +ℤ x false ≡ pos 0) → only (differ a b) (x a) +ℤ only ((a && b) && turns) (x true +ℤ x false) ≡ only a (x true) +ℤ only b (x false)
+by-marks : (a b turns : Bool) (x : Bool → ℤ) → (T (not turns) → x true +ℤ x false ≡ pos 0) → toOneSide a b (x true) (x false) +ℤ only ((a && b) && turns) (x true +ℤ x false) ≡ only a (x true) +ℤ only b (x false)
 by-marks true true true x h = +ℤ-idl (x true +ℤ x false)
 by-marks true true false x h = sym (h tt)
 by-marks true false turns x h = refl
@@ -64,7 +66,7 @@ by-marks false true turns x h = +ℤ-idr (x false) ∙ sym (+ℤ-idl (x false))
 by-marks false false turns x h = refl
 
 link-crosses : (g : Grid) (F : Books) (z : ℕ → Bool) (d i : ℕ) → edgeOf g F z d i +ℤ turnedAt g F z d i ≡ toMarked g F z d i
-unfolding edgeOf atEdge turnedAt toMarked broughtOf
+unfolding edgeOf turnedAt toMarked broughtOf
 link-crosses g F z d i =
     by-marks (z i) (z (i + strideOf g d)) (differ (F .lowIs d i) (F .highIs d i)) (λ low. broughtOf F low d i) (no-gain (F .lowIs d i) (F .highIs d i) (F .flow d i))
 
@@ -105,7 +107,7 @@ module _ (c : Case) (counted : Counted (c .grid)) (fluid : ℕ) where
       ∙ +ℤ-idl (convertedAt g F z i)
 
   crosses-links : (z : ℕ → Bool) → crossed (linesOf c z fluid) ≡ sum n (λ i. sum 3 (λ d. toMarked g F z d i))
-  unfolding linesBy totalsOf termsOf
+  unfolding linesBy
   crosses-links z =
       sym (sum-less-add n (λ i. edgesOf g F z i .inflow) (λ i. edgesOf g F z i .outflow) (convertedAt g F z))
       ∙ sum-same n (λ i. edgesOf g F z i .inflow -ℤ edgesOf g F z i .outflow +ℤ convertedAt g F z i) (λ i. sum 3 (λ d. toMarked g F z d i))
@@ -171,10 +173,10 @@ module _ (c : Case) (counted : Counted (c .grid)) (fluid : ℕ) where
 
   module _ (z w : ℕ → Bool) (alike : (i : ℕ) → i < n → z i ≡ w i) where
     edge-same : (d i : ℕ) → i < n → edgeOf g F z d i ≡ edgeOf g F w d i
-    unfolding edgeOf atEdge
+    unfolding atEdge
     edge-same d i l =
         let far : ℕ = i + strideOf g d in
-        rw (alike i l) (where-live d i (w i) (differ (w i) (z far)) (differ (w i) (w far)) (λ t. ap (differ (w i)) (alike far (live-inside g (c .slots) d i t counted l))))
+        rw (edge-at g F z d i, edge-at g F w d i, alike i l) (where-live d i (w i) (differ (w i) (z far)) (differ (w i) (w far)) (λ t. ap (differ (w i)) (alike far (live-inside g (c .slots) d i t counted l))))
 
     converted-same : (i : ℕ) → i < n → convertedAt g F z i ≡ convertedAt g F w i
     unfolding convertedAt
@@ -235,20 +237,31 @@ totals-same n f g same =
       error = sum-same n _ _ (λ i l. ap (λ r. r .error) (same i l)) k;
     }
 
+-- the lines are the sums of what each block gives to them
+pub lines-told : (g : Grid) (slots : List ℤ) (F : Books) (z : ℕ → Bool) → linesBy g slots F z ≡ totalsOf (blocksOf g) (termsOf g slots F z)
+unfolding linesBy totalsOf termsOf
+lines-told g slots F z = refl
+
 -- A row depends on the marks of the grid's blocks alone: a link that leads outside brings nothing.
 pub lines-same : (c : Case) → Counted (c .grid) → (z w : ℕ → Bool) → ((i : ℕ) → i < blocksOf (c .grid) → z i ≡ w i) → (fluid : ℕ) → linesOf c z fluid ≡ linesOf c w fluid
-unfolding linesBy
 lines-same c counted z w alike fluid =
     let F = booksOf c fluid in
-    totals-same (blocksOf (c .grid)) _ _
+    lines-told (c .grid) (c .slots) F z
+    ∙ totals-same (blocksOf (c .grid)) _ _
     (λ i l.
     terms-same (c .grid) (c .slots) (c .slots) F F z w i (own-same c counted fluid z w alike i l) (λ d h. edge-same c counted fluid z w alike d i l) (converted-same c counted fluid z w alike i l)
     (settled-alike c counted fluid z w alike i l))
+    ∙ sym (lines-told (c .grid) (c .slots) F w)
 
 -- The same books give a zone the same row.
 pub lines-by-same : {g : Grid} {s t : List ℤ} {F F′ : Books} → SameBooks g s t F F′ → (z : ℕ → Bool) → linesBy g s F z ≡ linesBy g t F′ z
-unfolding linesBy inZone ownIn edgeOf
-lines-by-same {g} {s} {t} {F} {F′} same z = totals-same (blocksOf g) _ _ (λ i l. terms-same g s t F F′ z z i (own i l) (λ d h. ap (only (atEdge g z d i)) (same .brought (z i) d i h l)) (converted i l) (settled i l))
+unfolding inZone ownIn edgeOf
+lines-by-same {g} {s} {t} {F} {F′} same z =
+    lines-told g s F z
+    ∙ totals-same (blocksOf g) _ _
+    (λ i l.
+    terms-same g s t F F′ z z i (own i l) (λ d h. ap₂ (toOneSide (z i) (z (i + strideOf g d))) (same .brought true d i h l) (same .brought false d i h l)) (converted i l) (settled i l))
+    ∙ sym (lines-told g t F′ z)
   where
     -- the zone's blocks are the same, and active in both
     zone : (i : ℕ) → i < blocksOf g → inZone s z i ≡ inZone t z i

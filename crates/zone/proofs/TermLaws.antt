@@ -8,7 +8,7 @@ use native.Mathlib.Omega.{arith}
 use lib.Dec.{T}
 use lib.IntN.{+ℤ-invl, _+ℤ_, negℤ, pos, ℤ}
 use Rattle.whole.specs.Sum.{only, sum}
-use Rattle.whole.specs.Whole.{Abs, In}
+use Rattle.whole.specs.Inner.{Abs, In}
 use Rattle.whole.proofs.RangeLaws.{leaf, ranges, within}
 use Rattle.whole.proofs.SearchLaws.{both, holds, true-is}
 use Rattle.whole.proofs.SumLaws.{only-abs, only-and, only-zero, sum-in}
@@ -18,24 +18,26 @@ use Rattle.grid.specs.Units.{above}
 use Rattle.slots.specs.Units.{mostPumpage}
 use Rattle.slices.specs.Slices.{Case}
 use Rattle.block.specs.Fluids.{inFluid}
-use Rattle.block.specs.Units.{mostVolume}
-use Rattle.flow.specs.Litres.{mostFlow, mostOverArea}
-use Rattle.wellformed.specs.Limits.{WellFormed, blockIn}
+use Rattle.block.specs.Inner.{mostVolume}
+use Rattle.flow.specs.Inner.{mostFlow, mostOverArea}
+use Rattle.wellformed.specs.Inner.{WellFormed}
+use Rattle.wellformed.specs.Limits.{blockIn}
 use Rattle.wellformed.specs.Links.{activeOf}
 use Rattle.wellformed.proofs.LinksLaws.{outside-dead}
 use Rattle.books.specs.declared.own.Own.{Own}
 use Rattle.books.specs.Bookkeeping.{Books, booksOf, broughtOf}
-use Rattle.books.specs.Rows.{Row, pairOf}
+use Rattle.books.specs.Inner.{Row, pairOf}
 use Rattle.books.specs.Own.{fixedOf, ownOf}
 use Rattle.books.proofs.CarriedLaws.{brought-dead, brought-in}
 use Rattle.books.proofs.OwnLaws.{own-boundary-in, own-pumped-in, own-recharge-in, own-storage-in}
-use Rattle.balance.specs.Balance.{balanceIn, balancesOf, mostBalance}
+use Rattle.balance.specs.Balance.{balanceIn, balancesOf}
+use Rattle.balance.specs.Inner.{mostBalance}
 use Rattle.balance.proofs.BalanceLaws.{balance-active, balance-in, balance-in-fluid}
 use Rattle.zone.specs.declared.lines.Lines.{Lines}
 use Rattle.zone.specs.declared.holdings.Settlement.{Settlement}
-use Rattle.zone.specs.Exchange.{atEdge, changes, convertedAt, edgeOf, edgesOf, inflowOf, outflowOf}
+use Rattle.zone.specs.Inner.{atEdge, termsOf}
+use Rattle.zone.specs.Exchange.{changes, convertedAt, edgeOf, edgesOf, inflowOf, outflowOf, toOneSide}
 use Rattle.zone.specs.Holdings.{nothing, ownIn, settledOf}
-use Rattle.zone.specs.Table.{termsOf}
 use Rattle.zone.specs.Zones.{differ, inZone}
 
 -- nine lines, each at most so great without sign
@@ -62,15 +64,24 @@ zone-active slots z i e = true-is (both (z i) (activeOf slots i) (holds e) .1)
 abbrev pub mostEdges : ℕ
 mostEdges = 4123168604160
 
+-- what a link with one side marked brings there, by whether it is one and which side is marked
+pub edge-at : (g : Grid) (F : Books) (z : ℕ → Bool) (d i : ℕ) → edgeOf g F z d i ≡ only (atEdge g z d i) (broughtOf F (z i) d i)
+unfolding edgeOf atEdge
+edge-at g F z d i = go (z i) (z (i + strideOf g d))
+  where
+    go : (a b : Bool) → toOneSide a b (broughtOf F true d i) (broughtOf F false d i) ≡ only (differ a b) (broughtOf F a d i)
+    go true true = refl
+    go true false = refl
+    go false true = refl
+    go false false = refl
+
 module _ (c : Case) (fluid : ℕ) (z : ℕ → Bool) (d i : ℕ) where
   pub edge-outside : nextOf (c .grid) d i ≡ false → edgeOf (c .grid) (booksOf c fluid) z d i ≡ pos 0
-  unfolding edgeOf
-  edge-outside e = ap (only (atEdge (c .grid) z d i)) (brought-dead c fluid d i (z i) (outside-dead (c .grid) (c .slots) d i e)) ∙ only-zero (atEdge (c .grid) z d i)
+  edge-outside e = edge-at (c .grid) (booksOf c fluid) z d i ∙ ap (only (atEdge (c .grid) z d i)) (brought-dead c fluid d i (z i) (outside-dead (c .grid) (c .slots) d i e)) ∙ only-zero (atEdge (c .grid) z d i)
 
 module _ (c : Case) (formed : WellFormed c) (fluid : ℕ) (z : ℕ → Bool) (i : ℕ) (l : i < blocksOf (c .grid)) where
   pub edge-in : (d : ℕ) → d ≤ above → Abs mostFlow (edgeOf (c .grid) (booksOf c fluid) z d i)
-  unfolding edgeOf
-  edge-in d h = only-abs (atEdge (c .grid) z d i) (brought-in c formed fluid d i (z i) h l)
+  edge-in d h = rw (edge-at (c .grid) (booksOf c fluid) z d i) (only-abs (atEdge (c .grid) z d i) (brought-in c formed fluid d i (z i) h l))
 
   pub inflow-in : (d : ℕ) → d ≤ above → Abs mostFlow (inflowOf (edgeOf (c .grid) (booksOf c fluid) z d i))
   inflow-in d h = within (search (ranges, leaf (edge-in d h)) depth 20) tt tt

@@ -12,7 +12,8 @@ use Rattle.whole.proofs.LinearLaws.{#, linear, signed}
 use Rattle.whole.proofs.OrderLaws.{maxℤ-l}
 use Rattle.whole.proofs.SumLaws.{sum-add, sum-bound, sum-none, sum-not-negative, sum-same}
 use Rattle.grid.specs.declared.Grid.{Grid}
-use Rattle.grid.specs.Place.{Counted, blocksOf, strideOf}
+use Rattle.grid.specs.Inner.{Counted}
+use Rattle.grid.specs.Place.{blocksOf, strideOf}
 use Rattle.grid.specs.Units.{above}
 use Rattle.slices.specs.Slices.{Case}
 use Rattle.block.specs.Fluids.{fresh, salt}
@@ -22,9 +23,9 @@ use Rattle.books.specs.Bookkeeping.{Books, booksOf, broughtOf}
 use Rattle.books.proofs.BooksTheorems.{leakage-shared}
 use Rattle.balance.specs.Balance.{balanceIn, flowsOf}
 use Rattle.zone.specs.Accounts.{Adds, Apart, Closes, freeIn, joined}
-use Rattle.zone.specs.Exchange.{atEdge, changes, convertedAt, edgeOf, edgesOf}
+use Rattle.zone.specs.Exchange.{changes, convertedAt, edgeOf, edgesOf}
 use Rattle.zone.specs.Holdings.{nothing, ownIn, settledOf}
-use Rattle.zone.specs.Table.{linesBy, linesOf, termsOf, totalsOf}
+use Rattle.zone.specs.Table.{linesBy, linesOf}
 use Rattle.zone.specs.Zones.{differ, inZone}
 use Rattle.zone.proofs.LinesLaws.{crosses-flows}
 
@@ -42,7 +43,7 @@ block-closes false fixed own flows = refl
 
 -- "storage + error = in - out + converted + wells + recharge + boundary + supply"
 pub closes : (c : Case) → Counted (c .grid) → (z : ℕ → Bool) (fluid : ℕ) → Closes (linesOf c z fluid)
-unfolding linesBy totalsOf termsOf ownIn balanceIn
+unfolding linesBy ownIn balanceIn
 closes c counted z fluid =
     let n = blocksOf (c .grid) in
     let F = booksOf c fluid in
@@ -69,7 +70,7 @@ line-adds g slots z w apart x none =
 -- Demand 3: "storage, wells, recharge, boundary, supply and error of the joined zone are the sums of the two; edge in less edge out plus converted also
 -- adds exactly"
 pub adds : (c : Case) → Counted (c .grid) → (z w : ℕ → Bool) → Apart (c .grid) z w → (fluid : ℕ) → Adds (linesOf c z fluid) (linesOf c w fluid) (linesOf c (joined z w) fluid)
-unfolding linesBy totalsOf termsOf ownIn settledOf
+unfolding linesBy ownIn settledOf
 adds c counted z w apart fluid =
     let F = booksOf c fluid in
     let line = line-adds (c .grid) (c .slots) z w apart in
@@ -88,7 +89,7 @@ adds c counted z w apart fluid =
 
 -- Edge in and edge out are never negative.
 pub edges-not-negative : (g : Grid) (slots : List ℤ) (F : Books) (z : ℕ → Bool) → (pos 0 ≤ℤ linesBy g slots F z .«edge_in») × (pos 0 ≤ℤ linesBy g slots F z .«edge_out»)
-unfolding linesBy totalsOf termsOf edgesOf
+unfolding linesBy edgesOf
 edges-not-negative g slots F z = (
   sum-not-negative (blocksOf g) _ (λ i. sum-not-negative 3 _ (λ d. maxℤ-l (pos 0) (edgeOf g F z d i))),
   sum-not-negative (blocksOf g) _ (λ i. sum-not-negative 3 _ (λ d. maxℤ-l (pos 0) (negℤ (edgeOf g F z d i)))),
@@ -96,7 +97,7 @@ edges-not-negative g slots F z = (
 
 -- Where every block is marked, nothing crosses an edge.
 pub whole-no-edges : (g : Grid) (slots : List ℤ) (F : Books) → (linesBy g slots F (λ i. true) .«edge_in» ≡ pos 0) × (linesBy g slots F (λ i. true) .«edge_out» ≡ pos 0)
-unfolding linesBy totalsOf termsOf edgesOf edgeOf atEdge
+unfolding linesBy edgesOf edgeOf
 whole-no-edges g slots F = (
   sum-none (blocksOf g) _ (λ i l. sum-none 3 _ (λ d k. refl)),
   sum-none (blocksOf g) _ (λ i l. sum-none 3 _ (λ d k. refl)),
@@ -115,7 +116,7 @@ pair-cancels false low high flow = refl
 
 -- What one fluid gains by conversion the other loses.
 pub conversions-cancel : (c : Case) (z : ℕ → Bool) → linesOf c z fresh .converted +ℤ linesOf c z salt .converted ≡ pos 0
-unfolding linesBy totalsOf termsOf convertedAt changes broughtOf
+unfolding linesBy convertedAt changes broughtOf
 conversions-cancel c z =
     let F = booksOf c fresh in
     sym (sum-add (blocksOf (c .grid)) _ _)
@@ -128,5 +129,5 @@ conversions-cancel c z =
 
 -- Where no free balance of a zone is above a number, without sign, its error is at most that number times the count of its free blocks.
 pub error-bounded : (g : Grid) (slots : List ℤ) (F : Books) (z : ℕ → Bool) (most : ℕ) → ((i : ℕ) → i < blocksOf g → T (freeIn slots F z i) → natAbs (balanceIn g F i) ≤ most) → natAbs (linesBy g slots F z .error) ≤ most * count (blocksOf g) (freeIn slots F z)
-unfolding linesBy totalsOf termsOf settledOf freeIn
+unfolding linesBy settledOf freeIn
 error-bounded g slots F z most h = sum-bound (blocksOf g) most (freeIn slots F z) (balanceIn g F) h

@@ -5,6 +5,7 @@ use mathlib.Core.Path.{_≡_}
 use Prim.Native.Nat.{_<_, ℕ}
 use lib.Dec.{T}
 use lib.IntN.{_+ℤ_, _-ℤ_, ℤ}
+use Rattle.whole.specs.Sum.{sum}
 use Rattle.grid.specs.declared.Grid.{Grid}
 use Rattle.grid.specs.Place.{blocksOf}
 use Rattle.books.specs.Bookkeeping.{Books}
@@ -31,6 +32,16 @@ pub record Adds (a b both : Lines) : Type 0 where
   pub supply : both .supply ≡ a .supply +ℤ b .supply
   pub error : both .error ≡ a .error +ℤ b .error
   pub crosses : crossed both ≡ crossed a +ℤ crossed b
+
+-- the same of the first n of some rows, one for each layer, and a row of the whole
+pub record AddUp (n : ℕ) (row : ℕ → Lines) (whole : Lines) : Type 0 where
+  pub storage : whole .storage ≡ sum n (λ k. row k .storage)
+  pub wells : whole .wells ≡ sum n (λ k. row k .wells)
+  pub recharge : whole .recharge ≡ sum n (λ k. row k .recharge)
+  pub boundary : whole .boundary ≡ sum n (λ k. row k .boundary)
+  pub supply : whole .supply ≡ sum n (λ k. row k .supply)
+  pub error : whole .error ≡ sum n (λ k. row k .error)
+  pub crosses : crossed whole ≡ sum n (λ k. crossed (row k))
 
 -- of demand 3: "two zones with no block in common"
 abbrev pub Apart : Grid → (ℕ → Bool) → (ℕ → Bool) → Type 0

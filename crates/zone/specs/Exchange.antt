@@ -14,14 +14,17 @@ use Rattle.zone.specs.Zones.{differ}
 
 -- ---- edge lines
 
--- "Edge lines count only lateral faces and leakage pairs with one side marked"
-unfoldable pub atEdge : Grid → (ℕ → Bool) → ℕ → ℕ → Bool
-atEdge g z d i = differ (z i) (z (i + strideOf g d))
+-- "Edge lines count only lateral faces and leakage pairs with one side marked": what a link brings to that side, by whether its low side and its high side
+-- are marked, and by what it brings to each
+abbrev pub toOneSide : Bool → Bool → ℤ → ℤ → ℤ
+toOneSide true false low high = low
+toOneSide false true low high = high
+toOneSide true true low high = pos 0
+toOneSide false false low high = pos 0
 
--- what such a link brings to its marked side, the low one where that is marked: "inflow as the fluid that arrives and outflow as the fluid that
--- leaves", so as it counts on that side
+-- "inflow as the fluid that arrives and outflow as the fluid that leaves": what is brought is as it counts on the marked side
 unfoldable pub edgeOf : Grid → Books → (ℕ → Bool) → ℕ → ℕ → ℤ
-edgeOf g F z d i = only (atEdge g z d i) (broughtOf F (z i) d i)
+edgeOf g F z d i = toOneSide (z i) (z (i + strideOf g d)) (broughtOf F true d i) (broughtOf F false d i)
 
 -- "inflow as the fluid that arrives"; inflow and outflow of a link are both positive litres (docs/DECISIONS.md, "Zones")
 abbrev pub inflowOf : ℤ → ℤ

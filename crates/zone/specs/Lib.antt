@@ -4,3 +4,4 @@ pub mod Exchange
 pub mod Holdings
 pub mod Table
 pub mod Accounts
+pub mod Inner

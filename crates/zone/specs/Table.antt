@@ -2,70 +2,38 @@
 -- recharge, boundary, supply, error", in litres a day.
 use mathlib.Core.Bool.{Bool}
 use mathlib.Core.List.{List}
-use Prim.Native.Nat.{_≤_, ℕ}
+use Prim.Native.Nat.{ℕ}
 use lib.IntN.{negℤ, ℤ}
-use lib.ListN.{length}
 use Rattle.whole.specs.Sum.{sum}
 use Rattle.grid.specs.declared.Grid.{Grid}
 use Rattle.grid.specs.Place.{blocksOf}
 use Rattle.slices.specs.Slices.{Case}
-use Rattle.wellformed.specs.Limits.{WellFormed}
-use Rattle.books.specs.Waters.{Watered}
 use Rattle.books.specs.Bookkeeping.{Books, booksOf}
-use Rattle.books.specs.Rows.{Row}
-use Rattle.balance.specs.Balance.{balanceIn, balancesOf}
+use Rattle.balance.specs.Balance.{balanceIn}
 use Rattle.zone.specs.declared.lines.Lines.{Lines}
 use Rattle.zone.specs.Exchange.{convertedAt, edgesOf}
 use Rattle.zone.specs.Holdings.{ownIn, settledOf}
 use Rattle.zone.specs.Zones.{inZone}
 
--- what a block, with the three links that lead on from it, gives to each line of a fluid's row; "wells (negative where pumped)"
-unfoldable pub termsOf : Grid → List ℤ → Books → (ℕ → Bool) → ℕ → Lines
-termsOf g slots F z i =
-    record {
-      storage = ownIn slots F z i .storage;
-      «edge_in» = edgesOf g F z i .inflow;
-      «edge_out» = edgesOf g F z i .outflow;
-      converted = convertedAt g F z i;
-      wells = negℤ (ownIn slots F z i .pumped);
-      recharge = ownIn slots F z i .recharge;
-      boundary = ownIn slots F z i .boundary;
-      supply = settledOf (inZone slots z i) (F .fixed i) (balanceIn g F i) .supply;
-      error = settledOf (inZone slots z i) (F .fixed i) (balanceIn g F i) .error;
-    }
-
--- the sums of n such rows
-unfoldable pub totalsOf : ℕ → (ℕ → Lines) → Lines
-totalsOf n f =
-    record {
-      storage = sum n (λ i. f i .storage);
-      «edge_in» = sum n (λ i. f i .«edge_in»);
-      «edge_out» = sum n (λ i. f i .«edge_out»);
-      converted = sum n (λ i. f i .converted);
-      wells = sum n (λ i. f i .wells);
-      recharge = sum n (λ i. f i .recharge);
-      boundary = sum n (λ i. f i .boundary);
-      supply = sum n (λ i. f i .supply);
-      error = sum n (λ i. f i .error);
-    }
-
--- the row of a fluid, over all blocks of a grid and by the fluid's books
+-- the nine lines of a fluid's row, over all blocks of a grid and by the fluid's books. A link counts at its low block, so each is counted once. "wells
+-- (negative where pumped)"
 unfoldable pub linesBy : Grid → List ℤ → Books → (ℕ → Bool) → Lines
-linesBy g slots F z = totalsOf (blocksOf g) (termsOf g slots F z)
+linesBy g slots F z =
+    record {
+      storage = total (λ i. ownIn slots F z i .storage);
+      «edge_in» = total (λ i. edgesOf g F z i .inflow);
+      «edge_out» = total (λ i. edgesOf g F z i .outflow);
+      converted = total (convertedAt g F z);
+      wells = total (λ i. negℤ (ownIn slots F z i .pumped));
+      recharge = total (λ i. ownIn slots F z i .recharge);
+      boundary = total (λ i. ownIn slots F z i .boundary);
+      supply = total (λ i. settledOf (inZone slots z i) (F .fixed i) (balanceIn g F i) .supply);
+      error = total (λ i. settledOf (inZone slots z i) (F .fixed i) (balanceIn g F i) .error);
+    }
+  where
+    total : (ℕ → ℤ) → ℤ
+    total line = sum (blocksOf g) line
 
 -- the nine lines of a zone of a case, in one fluid
 abbrev pub linesOf : Case → (ℕ → Bool) → ℕ → Lines
 linesOf c z fluid = linesBy (c .grid) (c .slots) (booksOf c fluid) z
-
--- what later parts require: a well-formed case, and rows of its thicknesses and balances,
-pub record Worked (c : Case) (waters balances : List ℤ) : Type 0 where
-  pub formed : WellFormed c
-  pub watered : Watered (c .grid) (c .slots) waters
-  pub balanced : Row (blocksOf (c .grid)) (balancesOf c) balances
-
--- and marks that reach over the grid
-pub record Ready (c : Case) (waters balances marks : List ℤ) : Type 0 where
-  pub formed : WellFormed c
-  pub watered : Watered (c .grid) (c .slots) waters
-  pub balanced : Row (blocksOf (c .grid)) (balancesOf c) balances
-  pub reach : blocksOf (c .grid) ≤ length marks

@@ -7,7 +7,7 @@ use lib.ListN.{getD}
 use lib.Signed.{ltZ}
 use Rattle.wellformed.specs.Links.{activeOf}
 
--- "A zone is a mark 0 or 1 per block." Any number above 0 marks here; what is neither 0 nor 1 has been refused with 11.
+-- "A zone is a mark 0 or 1 per block." The test is for a number above 0: a mark that is neither 0 nor 1 is refused before, with 11.
 unfoldable pub markedOf : List ℤ → ℕ → Bool
 markedOf marks i = ltZ (pos 0) (getD marks i (pos 0))
 

@@ -5,7 +5,7 @@ ghost use Rattle.grid.specs.Place.{blocksOf};
 ghost use Rattle.slices.specs.Slices.{caseOf};
 ghost use Rattle.books.specs.Bookkeeping.{booksOf};
 ghost use Rattle.zone.specs.Zones.{markedOf};
-ghost use Rattle.zone.specs.Table.{termsOf, Ready};
+ghost use Rattle.zone.specs.Inner.{termsOf, Ready};
 use super::exchange::converted;
 use super::exchange::edges;
 use super::holdings::own_in_zone;

@@ -5,7 +5,8 @@ use native.Mathlib.Omega.{arith}
 use lib.ListN.{length, length-set, set}
 use Rattle.whole.proofs.RangeLaws.{answer}
 use Rattle.grid.specs.Place.{blocksOf}
-use Rattle.budget.specs.Answers.{layerZone, marksOf}
+use Rattle.budget.specs.Answers.{layerZone}
+use Rattle.budget.specs.Inner.{marksOf}
 use Rattle.budget.proofs.AnswersLaws.{marks-more, marks-start}
 use Rattle.budget.proofs.fill_layer_marks.Statement.{statement}
 use Rattle.budget.proofs.fill_layer_marks.Tie as tie

@@ -8,7 +8,8 @@ use lib.ListN.{length, replicate}
 use borrow.Author.Needs.{needs}
 use Rattle.grid.specs.Place.{blocksOf}
 use Rattle.slices.specs.Slices.{Case, caseOf, firstRefusal}
-use Rattle.wellformed.specs.Limits.{WellFormed, checksOf}
+use Rattle.wellformed.specs.Inner.{WellFormed}
+use Rattle.wellformed.specs.Limits.{checksOf}
 use Rattle.wellformed.proofs.LimitsLaws.{checked-stands}
 use Rattle.zone.specs.Zones.{markedOf}
 use Rattle.books.specs.Waters.{wellChecks}

@@ -3,7 +3,7 @@ use mathlib.Core.Path.{_∙_, ap}
 use borrow.Author.Needs.{needs}
 use Rattle.slices.specs.Slices.{caseOf}
 use Rattle.zone.specs.Zones.{markedOf}
-use Rattle.budget.specs.Table.{flatOf}
+use Rattle.budget.specs.Inner.{flatOf}
 use Rattle.budget.proofs.AnswersLaws.{flat-table}
 use Rattle.budget.proofs.table_on.Statement.{statement}
 use Rattle.budget.proofs.table_on.Tie as tie

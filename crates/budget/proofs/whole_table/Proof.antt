@@ -3,7 +3,8 @@ use mathlib.Core.Path.{_∙_, ap}
 use native.Mathlib.Omega.{arith}
 use borrow.Author.Needs.{needs}
 use Rattle.slices.specs.Slices.{Case, caseOf, firstRefusal}
-use Rattle.wellformed.specs.Limits.{WellFormed, checksOf}
+use Rattle.wellformed.specs.Inner.{WellFormed}
+use Rattle.wellformed.specs.Limits.{checksOf}
 use Rattle.wellformed.proofs.LimitsLaws.{checked-stands}
 use Rattle.books.specs.Waters.{wellChecks}
 use Rattle.budget.specs.Answers.{eighteenOf, everywhere, tabled, wholeAnswer}

@@ -10,7 +10,7 @@ use borrow.Author.Needs.{needs}
 use Rattle.grid.specs.Place.{blocksOf}
 use Rattle.slices.specs.Slices.{Case, caseOf}
 use Rattle.wellformed.specs.Limits.{checkedLent, lentChecksOf}
-use Rattle.wellformed.proofs.LimitsLaws.{checked-stands, lent-reached, lent-stands}
+use Rattle.wellformed.proofs.LimitsLaws.{lent-reached, lent-stands}
 use Rattle.zone.specs.Zones.{markedOf}
 use Rattle.budget.specs.Answers.{eighteenOf, marksReach, tableChecks, zoneAnswer, zoneOfCase}
 use Rattle.budget.proofs.AnswersLaws.{tabled-goes-on, tabled-stays}
@@ -45,7 +45,7 @@ zone-of-case-requires : tie.Need-zone-of-case-requires
 zone-of-case-requires c κs =
     let s = c .before .before .before .before in
     let stands = lent-stands (caseIn s) (reachIn s) (rw (← told (c .before .before)) (c .if1 .left)) in
-    (checked-stands (caseIn s) (stands .0), leb→le (blocksOf (s .args .g)) (length (s .args .marks .now)) (stands .1))
+    (stands .0, leb→le (blocksOf (s .args .g)) (length (s .args .marks .now)) (stands .1))
 
 returns-2 : tie.Need-returns-2
 unfolding zoneAnswer zoneOfCase

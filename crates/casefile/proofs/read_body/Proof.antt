@@ -8,12 +8,13 @@ use lib.Seq.{length-take-le}
 use borrow.Author.Needs.{needs}
 use Rattle.whole.specs.Lent.{over}
 use Rattle.grid.specs.Place.{blocksOf}
-use Rattle.slices.specs.Slices.{Case, Judged, caseOf}
+use Rattle.slices.specs.Slices.{Case, caseOf}
+use Rattle.slices.specs.Inner.{Judged}
 use Rattle.fields.specs.declared.Part.the-variants.{Widths}
 use Rattle.fields.specs.declared.runs.Run.the-variants.{Done}
 use Rattle.fields.specs.Runs.{blocksFrom, endingOf, fillOf}
-use Rattle.casefile.specs.Reading.{bodyOf, caseFrom, rowsFrom, storedOf, slotsFrom}
-use Rattle.casefile.proofs.ReadingLaws.{body-case, body-done, case-judged, judging-goes-on, judging-stays}
+use Rattle.casefile.specs.Reading.{caseFrom, rowsFrom, slotsFrom}
+use Rattle.casefile.proofs.ReadingLaws.{body-case, body-done, body-goes-on, body-stays, case-judged}
 use Rattle.casefile.proofs.read_body.Statement.{statement}
 use Rattle.casefile.proofs.read_body.Tie as tie
 
@@ -56,11 +57,9 @@ done-at : (c : tie.After-ending) → c .ending .result .number ≡ 0 → (next :
 done-at c h = body-done (c .before .before .before .before .before .before .before .before .before .before .before .before .args .g) (c .before .before .before .before .before .before .before .before .before .before .before .before .args .file .now) (c .before .before .before .before .before .before .before .before .before .before .before .before .args .at) (rw (← end c) h)
 
 returns : tie.Need-returns
-unfolding bodyOf
 returns c =
     let a = c .before .before .before .before .before .before .before .before .before .before .before .before .before .before .before .args in
-    let e = judging-stays (c .before .before .before .ending .result) (endingOf (slotsFrom (a .g) (a .file .now) (a .at) .run) (a .file .now)) (storedOf (caseFrom (a .g) (a .file .now) (a .at))) (end (c .before .before .before)) (c .before .if1 .taken) in
-    rw e (c .refused .ensures, (refl, (refl, refl)))
+    rw (body-stays (a .g) (a .file .now) (a .at) (c .before .before .before .ending .result) (end (c .before .before .before)) (c .before .if1 .taken)) (c .refused .ensures, (refl, (refl, refl)))
 
 share-columns : tie.Need-slice-aggregate-store
 share-columns c = sym (length-take-le (c .before .before .before .before .before .before .before .before .before .before .before .before .before .before .before .args .g .columns) (c .before .before .before .before .before .before .before .before .before .before .before .fill .last .1 .1 .1 .1 .0) (columns-room (c .before .before .before .before .before .before .before .before .before .before .before)))
@@ -87,11 +86,11 @@ store-requires c κs =
     )
 
 returns-2 : tie.Need-returns-2
-unfolding bodyOf
 returns-2 c =
     let a = c .before .before .before .before .before .before .before .before .before .before .before .before .before .before .before .before .before .before .before .before .before .before .before .before .args in
     let d = done-at (c .before .before .before .before .before .before .before .before .before .before .before .before) (c .before .before .before .before .before .before .before .before .before .before .if1 .left) in
-    let e = judging-goes-on (c .before .before .before .before .before .before .before .before .before .before .before .before .ending .result) (endingOf (slotsFrom (a .g) (a .file .now) (a .at) .run) (a .file .now)) (storedOf (caseFrom (a .g) (a .file .now) (a .at))) (end (c .before .before .before .before .before .before .before .before .before .before .before .before)) (c .before .before .before .before .before .before .before .before .before .before .if1 .left) in
+    let ended = c .before .before .before .before .before .before .before .before .before .before .before .before in
+    let e = body-goes-on (a .g) (a .file .now) (a .at) (rw (← end ended) (c .before .before .before .before .before .before .before .before .before .before .if1 .left)) in
     rw (e, ← case-left (c .before .before .before .before .before .before .before .before .before .before .before .before .before .before) (d .0) (d .1)) (c .before .before .before .store .ensures)
 
 pub read-body-spec : {M : Type 1} → statement M

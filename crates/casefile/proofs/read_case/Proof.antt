@@ -10,7 +10,7 @@ use Rattle.slices.specs.Slices.{Case, caseOf, firstRefusal, shapeOf}
 use Rattle.slices.proofs.SlicesLaws.{shape-stands}
 use Rattle.fields.specs.declared.Part.the-variants.{Counts}
 use Rattle.fields.specs.declared.runs.Run.the-variants.{Done}
-use Rattle.fields.specs.Fields.{Within}
+use Rattle.fields.specs.Inner.{Within}
 use Rattle.fields.specs.Runs.{fillOf}
 use Rattle.fields.proofs.FilledLaws.{counts-sent, fill-of-whole, fill-within}
 use Rattle.casefile.specs.Reading.{countedOf, judging, readingOf, afterCounts}

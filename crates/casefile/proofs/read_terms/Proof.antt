@@ -8,7 +8,7 @@ use borrow.Author.Needs.{needs}
 use Rattle.grid.specs.Record.{terms}
 use Rattle.fields.specs.declared.Part.the-variants.{Terms}
 use Rattle.fields.specs.declared.runs.Run.the-variants.{Done}
-use Rattle.fields.specs.Fields.{Within}
+use Rattle.fields.specs.Inner.{Within}
 use Rattle.fields.specs.Runs.{fillOf}
 use Rattle.fields.proofs.FilledLaws.{fill-of-whole, fill-within, terms-sent}
 use Rattle.casefile.specs.Reading.{termedOf}

@@ -3,7 +3,8 @@ use mathlib.Core.Path.{refl}
 use borrow.Author.Needs.{needs}
 use Rattle.slices.specs.Slices.{Case, caseOf, firstRefusal}
 use Rattle.wellformed.specs.Limits.{limitsOf}
-use Rattle.casefile.specs.Reading.{giving, storedOf}
+use Rattle.casefile.specs.Reading.{giving}
+use Rattle.casefile.specs.Inner.{storedOf}
 use Rattle.casefile.proofs.ReadingLaws.{judging-goes-on, judging-stays}
 use Rattle.casefile.proofs.store.Statement.{statement}
 use Rattle.casefile.proofs.store.Tie as tie

@@ -4,8 +4,7 @@ use lib.ListN.{length}
 use borrow.Author.Needs.{needs}
 use borrow.Author.Tests.{lt-leb}
 use Rattle.whole.specs.Lent.{over}
-use Rattle.grid.specs.Judging.{Termed}
-use Rattle.grid.specs.Place.{Counted}
+use Rattle.grid.specs.Inner.{Counted, Termed}
 use Rattle.grid.specs.Record.{recordNumbers}
 use Rattle.casefile.specs.Reading.{Read}
 use Rattle.casefile.specs.declared.Answer.{Answer}

@@ -5,7 +5,8 @@ use borrow.Author.Needs.{needs}
 use Rattle.whole.specs.Lent.{over}
 use Rattle.verdict.specs.declared.Answer.{Answer}
 use Rattle.crossing.proofs.CrossingLaws.{handed-small, verdict-room}
-use Rattle.crossing.specs.Crossing.{Small, handed, numbersOfVerdict, verdictLeft}
+use Rattle.crossing.specs.Inner.{Small}
+use Rattle.crossing.specs.Crossing.{handed, numbersOfVerdict, verdictLeft}
 use Rattle.client.proofs.caydubeesh_verdict.Statement.{statement}
 use Rattle.client.proofs.caydubeesh_verdict.Tie as tie
 

@@ -7,7 +7,7 @@ use lib.Signed.{mag}
 use mir.Facts.{toZ-ofZ}
 use mir.Syntax.{w64}
 use mir.Val.{ofZ, toZ}
-use Rattle.whole.specs.Whole.{Abs}
+use Rattle.whole.specs.Inner.{Abs}
 use Rattle.whole.proofs.RangeLaws.{read-back, leaf, within}
 use Rattle.metres.specs.Metres.{metresOf, mostShown}
 use Rattle.report.proofs.in_metres.Statement.{statement}

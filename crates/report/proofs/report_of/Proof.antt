@@ -6,7 +6,8 @@ use mir.Val.{ofZ, toZ}
 use Rattle.whole.proofs.RangeLaws.{answer}
 use Rattle.block.specs.Density.{interfaceOf}
 use Rattle.block.specs.Fluids.{newHeads}
-use Rattle.block.specs.Geometry.{Levelled, levelsOf, thicknessesOf}
+use Rattle.block.specs.Inner.{Levelled}
+use Rattle.block.specs.Geometry.{levelsOf, thicknessesOf}
 use Rattle.block.proofs.BlockLaws.{levels-levelled, thicknesses-thick}
 use Rattle.block.proofs.DensityLaws.{interface-in}
 use Rattle.block.proofs.FluidLaws.{new-heads-in}

@@ -7,8 +7,9 @@ use borrow.Author.Needs.{needs}
 use borrow.Author.Tests.{not-false, not-true}
 use Rattle.grid.specs.Place.{blocksOf}
 use Rattle.slices.specs.Slices.{Case, caseOf}
-use Rattle.report.specs.Reports.{Named, namesActive, reportOf}
-use Rattle.report.proofs.ReportLaws.{fourteen, named, named-inside, reported}
+use Rattle.report.specs.Meaning.{Named}
+use Rattle.report.specs.Reports.{namesActive, reportOf}
+use Rattle.report.proofs.ReportLaws.{named, named-inside, reported, unreported}
 use Rattle.report.proofs.report_of_case.Statement.{statement}
 use Rattle.report.proofs.report_of_case.Tie as tie
 
@@ -19,7 +20,7 @@ caseIn s = caseOf (s .args .g) (s .args .columns .now) (s .args .rows .now) (s .
 returns : tie.Need-returns
 returns c =
     let s = c .before .before .before in
-    c .refused .ensures ∙ fourteen (caseIn s) (s .args .number) (sym (c .before .before .names-active .ensures) ∙ not-true (c .before .before .names-active .result) (c .before .if1 .taken))
+    c .refused .ensures ∙ unreported (caseIn s) (s .args .number) (sym (c .before .before .names-active .ensures) ∙ not-true (c .before .before .names-active .result) (c .before .if1 .taken))
 
 -- a number that names an active block
 names-it : (c : tie.Else1) → namesActive (c .before .before .args .g) (c .before .before .args .slots .now) (c .before .before .args .number) ≡ true

@@ -6,10 +6,9 @@ use native.Mathlib.Omega.{arith}
 use borrow.Author.Needs.{needs}
 use Rattle.grid.specs.Place.{blocksOf}
 use Rattle.slices.specs.Slices.{Case, caseOf}
-use Rattle.wellformed.specs.Limits.{WellFormed}
+use Rattle.wellformed.specs.Inner.{WellFormed}
 use Rattle.wellformed.proofs.LimitsLaws.{checked-stands}
-use Rattle.books.specs.Waters.{Slotted, Watered}
-use Rattle.books.specs.Rows.{Row, pairOf}
+use Rattle.books.specs.Inner.{Row, Slotted, Watered, pairOf}
 use Rattle.books.proofs.WatersLaws.{filled-watered, slotted}
 use Rattle.balance.specs.Balance.{balancesOf}
 use Rattle.balance.proofs.BalanceLaws.{filled-balanced, row-bounded}

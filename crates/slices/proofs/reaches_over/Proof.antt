@@ -4,7 +4,7 @@ use native.Mathlib.Nat.{mul-le-mul}
 use native.Mathlib.Omega.{arith}
 use borrow.Author.Needs.{needs}
 use Rattle.whole.proofs.SearchLaws.{holds}
-use Rattle.grid.specs.Place.{Counted}
+use Rattle.grid.specs.Inner.{Counted}
 use Rattle.grid.proofs.JudgingLaws.{counts-counted}
 use Rattle.slices.proofs.reaches_over.Statement.{statement}
 use Rattle.slices.proofs.reaches_over.Tie as tie

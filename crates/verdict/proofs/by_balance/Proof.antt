@@ -4,7 +4,7 @@ use Prim.Native.Nat.{_≤_}
 use native.Mathlib.Omega.{arith}
 use borrow.Author.Needs.{needs}
 use Rattle.whole.proofs.RangeLaws.{answer}
-use Rattle.books.specs.Rows.{pairOf}
+use Rattle.books.specs.Inner.{pairOf}
 use Rattle.verdict.specs.Ruling.{blockNumber, byBalance, codeOf}
 use Rattle.verdict.proofs.RulingLaws.{first-place-short}
 use Rattle.verdict.proofs.by_balance.Statement.{statement}

@@ -2,7 +2,7 @@
 use native.Mathlib.Omega.{arith}
 use lib.IntN.{pos}
 use borrow.Author.Needs.{needs}
-use Rattle.books.specs.Rows.{pairOf}
+use Rattle.books.specs.Inner.{pairOf}
 use Rattle.verdict.specs.Ruling.{blockNumber, concerning}
 use Rattle.verdict.proofs.RulingLaws.{first-place-short}
 use Rattle.verdict.proofs.concerned.Statement.{statement}

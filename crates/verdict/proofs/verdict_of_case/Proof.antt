@@ -6,8 +6,7 @@ use native.Mathlib.Omega.{arith}
 use borrow.Author.Needs.{needs}
 use Rattle.grid.specs.Place.{blocksOf}
 use Rattle.slices.specs.Slices.{caseOf}
-use Rattle.books.specs.Waters.{Slotted, Watered}
-use Rattle.books.specs.Rows.{pairOf}
+use Rattle.books.specs.Inner.{Slotted, Watered, pairOf}
 use Rattle.books.proofs.WatersLaws.{slotted, filled-watered}
 use Rattle.balance.specs.Balance.{balancesOf}
 use Rattle.balance.proofs.BalanceLaws.{filled-bounded, filled-balanced}

@@ -3,7 +3,7 @@ use mathlib.Core.Path.{_≡_, sym}
 use native.Mathlib.Omega.{arith}
 use borrow.Author.Needs.{needs}
 use borrow.Author.Tests.{le-ltb, lt-ltb}
-use Rattle.books.specs.Rows.{pairOf}
+use Rattle.books.specs.Inner.{pairOf}
 use Rattle.verdict.specs.Ruling.{firstPlace, verdictBy}
 use Rattle.verdict.proofs.verdict_of_rows.Statement.{statement}
 use Rattle.verdict.proofs.verdict_of_rows.Tie as tie

@@ -7,7 +7,8 @@ use lib.Dec.{T}
 use borrow.Author.Needs.{needs}
 use Rattle.whole.proofs.RangeLaws.{answer}
 use Rattle.whole.proofs.SearchLaws.{holds}
-use Rattle.grid.specs.Place.{earlierOf, placeOf, previousOf}
+use Rattle.grid.specs.Inner.{earlierOf}
+use Rattle.grid.specs.Place.{placeOf, previousOf}
 use Rattle.grid.proofs.PlaceLaws.{previous-low, previous-place, previous-told}
 use Rattle.slices.specs.Slices.{caseOf}
 use Rattle.books.specs.Bookkeeping.{booksOf, broughtOf}

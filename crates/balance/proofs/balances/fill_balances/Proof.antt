@@ -5,7 +5,7 @@ use native.Mathlib.Omega.{arith}
 use lib.ListN.{length}
 use Rattle.grid.specs.Place.{blocksOf}
 use Rattle.slices.specs.Slices.{caseOf}
-use Rattle.books.specs.Rows.{filledOf}
+use Rattle.books.specs.Inner.{filledOf}
 use Rattle.books.proofs.RowsLaws.{filled-start, filled-turn}
 use Rattle.balance.specs.Balance.{balancesOf}
 use Rattle.balance.proofs.balances.fill_balances.Statement.{statement}

@@ -1,6 +1,6 @@
 -- `levels_on` meets its contract: its sums are the definition's and fit. Assumes nothing.
 use Rattle.whole.proofs.RangeLaws.{exact, fits, leaf, ranges, read}
-use Rattle.block.specs.Geometry.{levelsOn}
+use Rattle.block.specs.Inner.{levelsOn}
 use Rattle.block.proofs.BlockLaws.{levels-same}
 use Rattle.block.proofs.geometry.levels_on.Statement.{statement}
 use Rattle.block.proofs.geometry.levels_on.Tie as tie

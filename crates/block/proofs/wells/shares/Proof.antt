@@ -6,14 +6,16 @@ use lib.Signed.{_≤ℤ_, ltZ}
 use mir.Syntax.{w64}
 use mir.Val.{ofZ, toZ}
 use borrow.Author.Needs.{needs}
-use Rattle.whole.specs.Whole.{Abs, cutOf}
+use Rattle.whole.specs.Inner.{Abs}
+use Rattle.whole.specs.Whole.{cutOf}
 use Rattle.whole.proofs.OrderLaws.{one-least}
 use Rattle.whole.proofs.RangeLaws.{answer, b-eq, exact, fits, lt-true, ranges}
 use Rattle.slots.specs.declared.Block.{Block}
-use Rattle.slots.specs.Slots.{Ends}
+use Rattle.slots.specs.Inner.{Ends}
 use Rattle.slots.specs.Units.{mostPumpage}
 use Rattle.block.specs.declared.Fluids.{Fluids}
-use Rattle.block.specs.Fluids.{Thick, togetherOf}
+use Rattle.block.specs.Inner.{Thick}
+use Rattle.block.specs.Fluids.{togetherOf}
 use Rattle.block.specs.Wells.{freshShareOf, sharesOf}
 use Rattle.block.proofs.BlockLaws.{fresh-part, parts-in}
 use Rattle.block.proofs.FluidLaws.{both-same}

@@ -3,11 +3,11 @@ use mathlib.Core.Bool.{cond}
 use mathlib.Core.Path.{_∙_, _≡_, sym}
 use lib.IntN.{+ℤ-idl, negℤ}
 use borrow.Author.Needs.{needs}
-use Rattle.whole.specs.Whole.{Abs}
+use Rattle.whole.specs.Inner.{Abs}
 use Rattle.whole.proofs.RangeLaws.{answer, b-is, exact, fits, leaf, ranges}
 use Rattle.whole.proofs.SearchLaws.{holds}
 use Rattle.slices.specs.Slices.{caseOf}
-use Rattle.flow.specs.Litres.{mostFlow}
+use Rattle.flow.specs.Inner.{mostFlow}
 use Rattle.wellformed.specs.Links.{liveOf}
 use Rattle.wellformed.proofs.LinksLaws.{live-inside}
 use Rattle.books.specs.Bookkeeping.{booksOf, broughtOf}

@@ -11,7 +11,8 @@ use Rattle.whole.proofs.RangeLaws.{answer, read}
 use Rattle.whole.proofs.SearchLaws.{holds, true-is}
 use Rattle.grid.specs.Place.{blocksOf, placeOf, strideOf}
 use Rattle.grid.specs.Units.{above}
-use Rattle.slots.specs.Slots.{Ends, blockOf}
+use Rattle.slots.specs.Inner.{Ends}
+use Rattle.slots.specs.Slots.{blockOf}
 use Rattle.slices.specs.Slices.{caseOf}
 use Rattle.block.specs.Fluids.{newHeads}
 use Rattle.block.specs.Geometry.{aquiferTopOf}
@@ -20,12 +21,12 @@ use Rattle.flow.specs.declared.leakage.LeakageSide.{LeakageSide}
 use Rattle.flow.specs.Leakage.{leakageOf}
 use Rattle.flow.specs.Litres.{overAreaOf}
 use Rattle.wellformed.specs.Links.{activeOf, liveOf}
-use Rattle.wellformed.specs.Widths.{Placed, areaAt}
+use Rattle.wellformed.specs.Inner.{Placed}
+use Rattle.wellformed.specs.Widths.{areaAt}
 use Rattle.wellformed.proofs.LinksLaws.{live-high, live-low, reach, live-inside}
 use Rattle.wellformed.proofs.WidthsLaws.{area-in, placed}
-use Rattle.books.specs.Waters.{Slotted}
+use Rattle.books.specs.Inner.{Slotted, pairOf}
 use Rattle.books.specs.Links.{leakageAt, leakageSideAt}
-use Rattle.books.specs.Rows.{pairOf}
 use Rattle.books.proofs.WatersLaws.{active-ends, slotted}
 use Rattle.books.proofs.CarriedLaws.{leakage-conductance-in, waters-in}
 use Rattle.books.proofs.links.leakage_flow.Statement.{statement}

@@ -8,7 +8,7 @@ use Rattle.grid.specs.Units.{above}
 use Rattle.flow.specs.Leakage.{lowermostOf, uppermostOf}
 use Rattle.books.specs.Waters.{watersOf}
 use Rattle.books.specs.Links.{namedOf}
-use Rattle.books.specs.Rows.{pairOf}
+use Rattle.books.specs.Inner.{pairOf}
 use Rattle.books.proofs.WatersLaws.{waters-thick}
 use Rattle.books.proofs.links.named.Statement.{statement}
 use Rattle.books.proofs.links.named.Tie as tie

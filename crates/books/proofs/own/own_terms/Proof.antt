@@ -5,22 +5,24 @@ use lib.IntN.{pos}
 use mir.Syntax.{w64}
 use mir.Val.{ofZ, toZ}
 use borrow.Author.Needs.{needs}
-use Rattle.whole.specs.Whole.{In}
+use Rattle.whole.specs.Inner.{In}
 use Rattle.whole.proofs.RangeLaws.{answer}
 use Rattle.whole.proofs.SearchLaws.{holds}
 use Rattle.grid.specs.Place.{placeOf, topOf}
 use Rattle.grid.proofs.PlaceLaws.{top-last}
-use Rattle.slots.specs.Slots.{Ends, blockOf}
+use Rattle.slots.specs.Inner.{Ends}
+use Rattle.slots.specs.Slots.{blockOf}
 use Rattle.slices.specs.Slices.{caseOf}
 use Rattle.block.specs.Fluids.{inFluid, oldHeads}
-use Rattle.block.specs.Geometry.{levelsOf, levelsOn, thicknessesOf}
+use Rattle.block.specs.Geometry.{levelsOf, thicknessesOf}
+use Rattle.block.specs.Inner.{levelsOn, mostArea}
 use Rattle.block.specs.Storage.{storageOf}
-use Rattle.block.specs.Units.{mostArea}
 use Rattle.block.specs.Wells.{lengthsOf, sharesOf}
 use Rattle.flow.specs.Boundary.{boundaryOf, rechargeOf}
 use Rattle.wellformed.specs.Widths.{areaAt}
 use Rattle.wellformed.proofs.WidthsLaws.{placed}
-use Rattle.books.specs.Waters.{Slotted, levelsAt, watersOf}
+use Rattle.books.specs.Inner.{Slotted}
+use Rattle.books.specs.Waters.{levelsAt, watersOf}
 use Rattle.books.specs.Own.{ownOf, pumpedAt, storageAt}
 use Rattle.books.proofs.WatersLaws.{active-ends, lengths-ready, levels-on-waters, slotted, waters-on, waters-thick}
 use Rattle.books.proofs.OwnLaws.{over-in}

@@ -3,7 +3,7 @@ use mathlib.Core.Path.{_∙_, ap}
 use borrow.Author.Needs.{needs}
 use Rattle.whole.proofs.RangeLaws.{answer}
 use Rattle.block.specs.Fluids.{inFluid}
-use Rattle.block.specs.Geometry.{levelsOn}
+use Rattle.block.specs.Inner.{levelsOn}
 use Rattle.block.specs.Wells.{sharesOf}
 use Rattle.block.proofs.BlockLaws.{lengths-thick}
 use Rattle.books.proofs.own.pumped.Statement.{statement}

@@ -6,7 +6,8 @@ use borrow.Author.Needs.{needs}
 use Rattle.whole.proofs.RangeLaws.{answer, read}
 use Rattle.block.specs.declared.geometry.Levels.{Levels}
 use Rattle.block.specs.Fluids.{inFluid, oldHeads}
-use Rattle.block.specs.Geometry.{Levelled, levelsOf, thicknessesOf}
+use Rattle.block.specs.Inner.{Levelled}
+use Rattle.block.specs.Geometry.{levelsOf, thicknessesOf}
 use Rattle.block.specs.Storage.{storageOf}
 use Rattle.block.proofs.BlockLaws.{levels-levelled, thicknesses-thick}
 use Rattle.block.proofs.FluidLaws.{in-fluid-in, old-heads-in}

@@ -5,7 +5,7 @@ use native.Mathlib.Omega.{arith}
 use lib.ListN.{length}
 use Rattle.grid.specs.Place.{blocksOf}
 use Rattle.books.specs.Waters.{watersOf}
-use Rattle.books.specs.Rows.{filledOf}
+use Rattle.books.specs.Inner.{filledOf}
 use Rattle.books.proofs.RowsLaws.{filled-start, filled-turn}
 use Rattle.books.proofs.waters.fill_waters.Statement.{statement}
 use Rattle.books.proofs.waters.fill_waters.Tie as tie

@@ -1,7 +1,7 @@
 -- `lengths_on` meets its contract: its calls are the definition's steps. Assumes nothing.
 use mathlib.Core.Path.{_∙_, _≡_, ap}
 use Rattle.whole.proofs.RangeLaws.{read}
-use Rattle.block.specs.Geometry.{levelsOn}
+use Rattle.block.specs.Inner.{levelsOn}
 use Rattle.block.specs.Wells.{lengthsOf}
 use Rattle.books.proofs.waters.lengths_on.Statement.{statement}
 use Rattle.books.proofs.waters.lengths_on.Tie as tie

@@ -1,7 +1,7 @@
 -- `add` meets its contract. Assumes nothing.
 use mathlib.Core.List.{[], _∷_}
 use borrow.Author.Needs.{needs}
-use Rattle.budget.specs.Table.{addTable}
+use Rattle.budget.specs.Inner.{addTable}
 use Rattle.budget.proofs.table.add.Statement.{statement}
 use Rattle.budget.proofs.table.add.Tie as tie
 

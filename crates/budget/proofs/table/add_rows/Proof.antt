@@ -9,7 +9,7 @@ use mir.Syntax.{w64}
 use mir.Val.{ofZ, toZ}
 use borrow.Author.Needs.{needs}
 use Rattle.whole.proofs.RangeLaws.{Bounds, exact, fits, leaf, ranges}
-use Rattle.budget.specs.Table.{addRow}
+use Rattle.budget.specs.Inner.{addRow}
 use Rattle.budget.proofs.TableLaws.{add-at, add-length, laid-over, lay-first}
 use Rattle.budget.proofs.table.add_rows.Statement.{statement}
 use Rattle.budget.proofs.table.add_rows.Tie as tie

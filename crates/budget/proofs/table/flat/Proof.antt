@@ -4,7 +4,7 @@ use mathlib.Core.Path.{refl}
 use lib.IntN.{pos}
 use lib.ListN.{getD, replicate}
 use borrow.Author.Needs.{needs}
-use Rattle.budget.specs.Table.{flatOf}
+use Rattle.budget.specs.Inner.{flatOf}
 use Rattle.budget.proofs.TableLaws.{both-rows}
 use Rattle.budget.proofs.table.flat.Statement.{statement}
 use Rattle.budget.proofs.table.flat.Tie as tie

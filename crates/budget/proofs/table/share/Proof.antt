@@ -3,7 +3,8 @@ use mathlib.Core.List.{[], _∷_}
 use mathlib.Core.Path.{_∙_, ap}
 use native.Mathlib.Omega.{arith}
 use borrow.Author.Needs.{needs}
-use Rattle.budget.specs.Table.{rowOf, shareOf}
+use Rattle.budget.specs.Table.{rowOf}
+use Rattle.budget.specs.Inner.{shareOf}
 use Rattle.budget.proofs.table.share.Statement.{statement}
 use Rattle.budget.proofs.table.share.Tie as tie
 

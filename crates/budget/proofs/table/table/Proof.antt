@@ -5,7 +5,7 @@ use native.Mathlib.Omega.{arith}
 use Rattle.grid.specs.Place.{blocksOf}
 use Rattle.slices.specs.Slices.{Case, caseOf}
 use Rattle.zone.specs.Zones.{markedOf}
-use Rattle.budget.specs.Table.{addTable, tableTo}
+use Rattle.budget.specs.Inner.{addTable, tableTo}
 use Rattle.budget.proofs.TableLaws.{share-in, table-in, table-more, table-start}
 use Rattle.budget.proofs.table.table.Statement.{statement}
 use Rattle.budget.proofs.table.table.Tie as tie

@@ -4,8 +4,8 @@ use lib.ListN.{length}
 use borrow.Author.Needs.{needs}
 use borrow.Author.Tests.{le-leb, lt-leb}
 use Rattle.grid.specs.Record.{recordNumbers}
-use Rattle.slices.specs.Slices.{reachesOver}
-use Rattle.crossing.specs.Crossing.{tableReaches}
+use Rattle.slices.specs.Inner.{reachesOver}
+use Rattle.crossing.specs.Inner.{tableReaches}
 use Rattle.crossing.proofs.handed.table_reaches.Statement.{statement}
 use Rattle.crossing.proofs.handed.table_reaches.Tie as tie
 

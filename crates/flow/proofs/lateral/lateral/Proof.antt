@@ -6,7 +6,8 @@ use mir.Val.{ofZ, toZ}
 use borrow.Author.Needs.{needs}
 use Rattle.whole.proofs.RangeLaws.{answer, exact, fits, leaf, ranges, read, within}
 use Rattle.flow.specs.declared.lateral.Side.{Side}
-use Rattle.flow.specs.Lateral.{SideIn, conductanceOf, faceConductanceOf, faceKOf, faceThicknessOf, lateralOf}
+use Rattle.flow.specs.Inner.{SideIn}
+use Rattle.flow.specs.Lateral.{conductanceOf, faceConductanceOf, faceKOf, faceThicknessOf, lateralOf}
 use Rattle.flow.specs.Litres.{leavingOf, litresOf}
 use Rattle.flow.proofs.LateralLaws.{through-k, through-nonneg, through-thickness}
 use Rattle.flow.proofs.lateral.lateral.Statement.{statement}

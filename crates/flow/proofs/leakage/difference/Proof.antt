@@ -9,7 +9,7 @@ use borrow.Author.Tests.{eq-eqb, ne-eqb}
 use Rattle.whole.proofs.RangeLaws.{Bounds, b-eq, exact, fits, ranges, read}
 use Rattle.grid.specs.declared.Grid.{Grid}
 use Rattle.block.specs.declared.Fluids.{Fluids}
-use Rattle.block.specs.Units.{Level}
+use Rattle.block.specs.Inner.{Level}
 use Rattle.block.proofs.FluidLaws.{in-fluid-in}
 use Rattle.flow.specs.Leakage.{differenceOf, freshHeadOf}
 use Rattle.flow.proofs.LeakageLaws.{fresh-head-in}

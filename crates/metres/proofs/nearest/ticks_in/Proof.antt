@@ -3,7 +3,7 @@ use mathlib.Core.Path.{_∙_, ap}
 use Prim.Native.Nat.{_%_, _*_, _-_, _^_}
 use lib.Ieee.Nearest.{closest}
 use borrow.Author.Needs.{needs}
-use Rattle.metres.specs.Patterns.{digitsOf}
+use Rattle.metres.specs.Inner.{digitsOf}
 use Rattle.metres.proofs.TakenLaws.{digits-below, size-between, size-near, unit-is, unit-most, unit-some}
 use Rattle.metres.proofs.nearest.ticks_in.Statement.{statement}
 use Rattle.metres.proofs.nearest.ticks_in.Tie as tie

@@ -6,7 +6,7 @@ use mir.Val.{ofZ, toZ}
 use borrow.Author.Needs.{needs}
 use Rattle.whole.proofs.RangeLaws.{answer, read}
 use Rattle.block.specs.Fluids.{inFluid}
-use Rattle.books.specs.Rows.{pairOf}
+use Rattle.books.specs.Inner.{pairOf}
 use Rattle.books.proofs.WatersLaws.{sound}
 use Rattle.balance.proofs.BalanceLaws.{pair-in}
 use Rattle.verdict.specs.Places.{failsAt, freeAt, sizeOf}

@@ -7,7 +7,7 @@ use borrow.Author.Needs.{needs}
 use Rattle.whole.proofs.RangeLaws.{answer}
 use Rattle.grid.specs.Place.{blocksOf}
 use Rattle.block.specs.Fluids.{inFluid}
-use Rattle.books.specs.Rows.{pairOf}
+use Rattle.books.specs.Inner.{pairOf}
 use Rattle.books.proofs.WatersLaws.{sound}
 use Rattle.balance.proofs.BalanceLaws.{pair-in}
 use Rattle.verdict.specs.Places.{freeAt, freeSizeOf, sizeOf}

@@ -9,7 +9,8 @@ use Rattle.whole.specs.Whole.{isZero}
 use Rattle.whole.proofs.RangeLaws.{Bounds, b-eq, exact, fits, ranges}
 use Rattle.whole.proofs.SearchLaws.{holds}
 use Rattle.slots.specs.declared.Block.{Block}
-use Rattle.slots.specs.Slots.{Ends, blockOf}
+use Rattle.slots.specs.Inner.{Ends}
+use Rattle.slots.specs.Slots.{blockOf}
 use Rattle.block.specs.Fluids.{inFluid, newHeads, oldHeads}
 use Rattle.block.proofs.FluidLaws.{in-fluid-in, new-heads-in, old-heads-in}
 use Rattle.wellformed.specs.Links.{activeOf}

@@ -8,7 +8,7 @@ use native.Mathlib.Omega.{arith}
 use Rattle.whole.specs.Sum.{count}
 use Rattle.whole.proofs.SumLaws.{count-more, count-most, count-start}
 use Rattle.grid.specs.Place.{blocksOf}
-use Rattle.books.specs.Rows.{pairOf}
+use Rattle.books.specs.Inner.{pairOf}
 use Rattle.verdict.specs.Places.{countedBy, placesOf}
 use Rattle.verdict.specs.Ruling.{countOf}
 use Rattle.verdict.proofs.PlacesLaws.{block-below}

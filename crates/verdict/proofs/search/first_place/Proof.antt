@@ -5,7 +5,7 @@ use native.Mathlib.Omega.{arith}
 use Rattle.whole.specs.Search.{firstOf}
 use Rattle.whole.proofs.SearchLaws.{first-found, first-more, first-start}
 use Rattle.grid.specs.Place.{blocksOf}
-use Rattle.books.specs.Rows.{pairOf}
+use Rattle.books.specs.Inner.{pairOf}
 use Rattle.verdict.specs.Places.{countedBy, placesOf}
 use Rattle.verdict.specs.Ruling.{firstPlace}
 use Rattle.verdict.proofs.PlacesLaws.{counted-by}

@@ -9,7 +9,7 @@ use Rattle.whole.specs.Search.{mostOf}
 use Rattle.whole.specs.Whole.{maxℤ}
 use Rattle.whole.proofs.RangeLaws.{answer}
 use Rattle.whole.proofs.SearchLaws.{most-more, most-start}
-use Rattle.books.specs.Rows.{pairOf}
+use Rattle.books.specs.Inner.{pairOf}
 use Rattle.verdict.specs.Places.{freeSizeOf, placesOf}
 use Rattle.verdict.specs.Ruling.{largestOf}
 use Rattle.verdict.proofs.search.largest.Statement.{statement}

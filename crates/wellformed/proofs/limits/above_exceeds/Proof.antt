@@ -5,7 +5,8 @@ use mir.Val.{ofZ, toZ}
 use borrow.Author.Needs.{needs}
 use Rattle.whole.proofs.RangeLaws.{read}
 use Rattle.whole.proofs.SearchLaws.{holds}
-use Rattle.slots.specs.Slots.{Ends, blockOf}
+use Rattle.slots.specs.Inner.{Ends}
+use Rattle.slots.specs.Slots.{blockOf}
 use Rattle.slices.specs.Slices.{caseOf}
 use Rattle.flow.specs.Litres.{overAreaOf}
 use Rattle.wellformed.specs.Limits.{aboveExceeds, exceeds}

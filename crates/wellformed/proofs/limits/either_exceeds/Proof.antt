@@ -6,7 +6,8 @@ use mir.Val.{ofZ, toZ}
 use borrow.Author.Needs.{needs}
 use Rattle.whole.specs.Whole.{maxℤ}
 use Rattle.whole.proofs.RangeLaws.{answer, leaf, ranges, read, within}
-use Rattle.wellformed.specs.Limits.{eitherExceeds, farWithin}
+use Rattle.wellformed.specs.Limits.{eitherExceeds}
+use Rattle.wellformed.specs.Inner.{farWithin}
 use Rattle.wellformed.proofs.QuickLaws.{far-neither}
 use Rattle.wellformed.proofs.limits.either_exceeds.Statement.{statement}
 use Rattle.wellformed.proofs.limits.either_exceeds.Tie as tie

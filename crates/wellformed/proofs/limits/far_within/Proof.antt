@@ -4,14 +4,13 @@ use lib.IntN.{_*ℤ_, _+ℤ_, pos, ℤ}
 use lib.Signed.{ltZ}
 use mir.Syntax.{w64}
 use mir.Val.{ofZ, toZ}
-use Rattle.whole.specs.Whole.{In}
+use Rattle.whole.specs.Inner.{In}
 use Rattle.whole.proofs.RangeLaws.{exact, fits, ranges}
 use Rattle.slots.specs.Units.{mostK, mostThickness}
 use Rattle.block.specs.Units.{ticks}
 use Rattle.flow.specs.declared.lateral.Face.{Face}
-use Rattle.flow.specs.Lateral.{FaceIn}
-use Rattle.flow.specs.Litres.{overConductance}
-use Rattle.wellformed.specs.Limits.{farWithin}
+use Rattle.flow.specs.Inner.{FaceIn, overConductance}
+use Rattle.wellformed.specs.Inner.{farWithin}
 use Rattle.wellformed.proofs.limits.far_within.Statement.{statement}
 use Rattle.wellformed.proofs.limits.far_within.Tie as tie
 

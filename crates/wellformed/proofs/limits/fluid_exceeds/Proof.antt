@@ -5,10 +5,11 @@ use lib.Signed.{ltZ}
 use mir.Syntax.{w64}
 use mir.Val.{ofZ, toZ}
 use borrow.Author.Needs.{needs}
-use Rattle.whole.specs.Whole.{In, maxℤ}
+use Rattle.whole.specs.Inner.{In}
+use Rattle.whole.specs.Whole.{maxℤ}
 use Rattle.whole.proofs.RangeLaws.{answer, leaf, ranges, read, within}
 use Rattle.block.specs.Geometry.{kOf}
-use Rattle.block.specs.Units.{mostFluidK}
+use Rattle.block.specs.Inner.{mostFluidK}
 use Rattle.block.proofs.BlockLaws.{k-in-range}
 use Rattle.flow.specs.Lateral.{conductanceOf, faceKOf}
 use Rattle.flow.specs.Litres.{mostConductance}

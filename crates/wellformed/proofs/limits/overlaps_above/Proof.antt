@@ -9,7 +9,8 @@ use borrow.Author.Needs.{needs}
 use Rattle.whole.proofs.RangeLaws.{answer, read}
 use Rattle.whole.proofs.SearchLaws.{holds}
 use Rattle.grid.specs.Place.{blocksOf, strideOf}
-use Rattle.slots.specs.Slots.{Ends, blockOf}
+use Rattle.slots.specs.Inner.{Ends}
+use Rattle.slots.specs.Slots.{blockOf}
 use Rattle.block.specs.Geometry.{aquiferTopOf}
 use Rattle.wellformed.specs.Limits.{overlaps}
 use Rattle.wellformed.specs.Links.{liveOf}

@@ -5,7 +5,7 @@ use Prim.Native.Nat.{_+_, ℕ}
 use native.Mathlib.Omega.{arith}
 use borrow.Author.Needs.{needs}
 use Rattle.grid.specs.Place.{strideOf}
-use Rattle.zone.specs.Exchange.{atEdge}
+use Rattle.zone.specs.Inner.{atEdge}
 use Rattle.zone.specs.Zones.{markedOf}
 use Rattle.zone.proofs.exchange.at_edge.Statement.{statement}
 use Rattle.zone.proofs.exchange.at_edge.Tie as tie

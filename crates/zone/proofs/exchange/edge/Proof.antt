@@ -9,9 +9,8 @@ use Rattle.grid.specs.Place.{nextOf}
 use Rattle.grid.proofs.PlaceLaws.{next-inside, next-told}
 use Rattle.slices.specs.Slices.{caseOf}
 use Rattle.books.specs.Bookkeeping.{booksOf, broughtOf}
-use Rattle.zone.specs.Exchange.{edgeOf}
 use Rattle.zone.specs.Zones.{markedOf}
-use Rattle.zone.proofs.TermLaws.{edge-outside}
+use Rattle.zone.proofs.TermLaws.{edge-at, edge-outside}
 use Rattle.zone.proofs.exchange.edge.Statement.{statement}
 use Rattle.zone.proofs.exchange.edge.Tie as tie
 
@@ -28,15 +27,15 @@ brought-requires : tie.Need-brought-requires
 brought-requires c κs = let h = c .before .before .before .before .before .pre in (h .0, (h .1 .0, (h .1 .1 .1 .0, (h .1 .1 .1 .1 .0, h .1 .1 .1 .1 .1))))
 
 returns : tie.Need-returns
-unfolding edgeOf
 returns c =
     let s = c .before .before .before .before .before .before .args in
-    rw (sym (c .before .before .before .at-edge .ensures) ∙ c .before .before .if2 .taken)
+    rw (edge-at (s .g) (booksOf (caseOf (s .g) (s .columns .now) (s .rows .now) (s .slots .now)) (s .fluid)) (markedOf (s .marks .now)) (s .axis) (s .block), sym (c .before .before .before .at-edge .ensures) ∙ c .before .before .if2 .taken)
     (answer (c .brought .ok) (c .brought .ensures ∙ ap (λ (b : Bool). broughtOf (booksOf (caseOf (s .g) (s .columns .now) (s .rows .now) (s .slots .now)) (s .fluid)) b (s .axis) (s .block)) (c .before .is-marked .ensures)))
 
 returns-2 : tie.Need-returns-2
-unfolding edgeOf
-returns-2 c = rw (sym (c .before .at-edge .ensures) ∙ c .if2 .left)
+returns-2 c =
+    let s = c .before .before .before .before .args in
+    rw (edge-at (s .g) (booksOf (caseOf (s .g) (s .columns .now) (s .rows .now) (s .slots .now)) (s .fluid)) (markedOf (s .marks .now)) (s .axis) (s .block), sym (c .before .at-edge .ensures) ∙ c .if2 .left)
 
 returns-3 : tie.Need-returns-3
 returns-3 c =

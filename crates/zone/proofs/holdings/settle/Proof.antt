@@ -3,15 +3,15 @@ use mathlib.Core.Path.{_∙_, _≡_, ap, sym}
 use native.Mathlib.Omega.{arith}
 use lib.IntN.{pos}
 use borrow.Author.Needs.{needs}
-use Rattle.whole.specs.Whole.{Abs}
+use Rattle.whole.specs.Inner.{Abs}
 use Rattle.whole.proofs.RangeLaws.{answer, b-eq, fits, negated, ranges}
 use Rattle.slots.specs.Slots.{blockOf}
 use Rattle.block.specs.Fluids.{inFluid}
 use Rattle.wellformed.proofs.LinksLaws.{reach}
-use Rattle.books.specs.Rows.{pairOf}
+use Rattle.books.specs.Inner.{pairOf}
 use Rattle.books.specs.Own.{fixedOf}
 use Rattle.books.proofs.WatersLaws.{active-ends}
-use Rattle.balance.specs.Balance.{mostBalance}
+use Rattle.balance.specs.Inner.{mostBalance}
 use Rattle.balance.proofs.BalanceLaws.{pair-in}
 use Rattle.zone.specs.Holdings.{settledOf}
 use Rattle.zone.specs.Zones.{inZone, markedOf}

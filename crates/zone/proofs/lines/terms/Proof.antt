@@ -2,20 +2,20 @@
 use mathlib.Core.Path.{_∙_, _≡_, ap}
 use Prim.Native.Nat.{_<_, _≤_}
 use lib.ListN.{length}
-use Rattle.whole.specs.Whole.{Abs}
+use Rattle.whole.specs.Inner.{Abs}
 use Rattle.whole.proofs.RangeLaws.{answer, b-eq, fits, negated, ranges}
 use Rattle.grid.specs.declared.place.Place.{Place}
 use Rattle.grid.specs.Place.{blocksOf, placeOf}
 use Rattle.slots.specs.Units.{mostPumpage}
 use Rattle.slices.specs.Slices.{Case, caseOf}
-use Rattle.wellformed.specs.Limits.{WellFormed}
-use Rattle.books.specs.Waters.{Watered}
+use Rattle.wellformed.specs.Inner.{WellFormed}
+use Rattle.books.specs.Inner.{Watered}
 use Rattle.books.specs.Bookkeeping.{booksOf}
 use Rattle.books.proofs.WatersLaws.{slotted}
 use Rattle.balance.specs.Balance.{balanceIn}
 use Rattle.balance.proofs.BalanceLaws.{row-bounded}
 use Rattle.zone.specs.Holdings.{ownIn, settledOf}
-use Rattle.zone.specs.Table.{termsOf}
+use Rattle.zone.specs.Inner.{termsOf}
 use Rattle.zone.specs.Zones.{inZone, markedOf}
 use Rattle.zone.proofs.TermLaws.{own-in-pumped, settled-read}
 use Rattle.zone.proofs.lines.terms.Statement.{statement}

@@ -1,5 +1,6 @@
--- The bits of a double: a sign, an exponent's field of 11 bits and 52 digits.
-use Prim.Native.Nat.{ℕ, _+_, _/_, _%_, _^_}
+-- The bits of a double, as inner functions read them: a sign, an exponent's field of 11 bits and 52 digits. No answer is said with these: nothing here has
+-- to be believed.
+use Prim.Native.Nat.{_%_, _+_, _/_, _^_, ℕ}
 
 -- the exponent's field
 abbrev pub fieldOf : ℕ → ℕ
