@@ -312,13 +312,13 @@ blaming-most n (suc b) h = h
 
 -- and the first of some that are
 data EachMost : List Refusal → Type 0 where
-  no-more : EachMost []
-  one-more : {x : Refusal} {xs : List Refusal} → x .number ≤ 10 → EachMost xs → EachMost (x ∷ xs)
+  none-left : EachMost []
+  and-more : {x : Refusal} {xs : List Refusal} → x .number ≤ 10 → EachMost xs → EachMost (x ∷ xs)
 
 first-most : (xs : List Refusal) → EachMost xs → firstRefusal xs .number ≤ 10
 unfolding firstRefusal
-first-most [] no-more = omega arith
-first-most (x ∷ xs) (one-more h rest) = go (ℕ-discrete (x .number) 0) (first-most xs rest)
+first-most [] none-left = omega arith
+first-most (x ∷ xs) (and-more h rest) = go (ℕ-discrete (x .number) 0) (first-most xs rest)
   where
     go : Dec (x .number ≡ 0) → firstRefusal xs .number ≤ 10 → orElse x (firstRefusal xs) .number ≤ 10
     go (yes z) k = rw (or-next x (firstRefusal xs) z) k
@@ -330,7 +330,7 @@ unfolding shapeOf
 shape-most c =
     let counts = unless-most 3 (countsHold (c .grid)) (omega arith) in
     let room = unless-most 7 (roomHolds c) (omega arith) in
-    first-most (shapeOf c) (search (no-more, one-more, counts, room))
+    first-most (shapeOf c) (search (none-left, and-more, counts, room))
 
 -- 8, after what a run tells
 ending-most : (run : Run) (file : List ℕ) → Telling Listed run → endingOf run file .number ≤ 10
@@ -346,7 +346,7 @@ end-most g file at =
     let end = ending-most (slotsFrom g file at .run) file (body-telling Listed early-listed g file at) in
     let overlap = blaming-most 9 (firstAtFault c 9) (omega arith) in
     let limit = blaming-most 10 (firstAtFault c 10) (omega arith) in
-    first-most (endChecks g file at) (search (no-more, one-more, end, overlap, limit))
+    first-most (endChecks g file at) (search (none-left, and-more, end, overlap, limit))
 
 -- what holds of every case that is unrefused and of every refusal from 1 to 10 holds of whatever a file is answered with
 module _ (Holds : Read → Type 0) (accepts : (c : Case) → Holds (giving c)) (refuses : (r : Refusal) → Listed (r .number) → Holds (refusing r)) where

@@ -36,16 +36,19 @@ mostFlow = 1374389534720
 abbrev pub Width : ℤ → Type 0
 Width z = In (pos 1) (pos mostWidth) z
 
+-- the widths of a face
 pub record FaceIn (f : Face) : Type 0 where
   pub low : Width (f .low)
   pub high : Width (f .high)
   pub across : Width (f .across)
 
+-- a side of a face: K in mm/day, thickness and head in ticks
 pub record SideIn (s : Side) : Type 0 where
   pub k : In (pos 1) (pos mostFluidK) (s .k)
   pub thickness : In (pos 0) (pos mostThickness) (s .thickness)
   pub head : Abs mostLevel (s .head)
 
+-- the block behind a tip; its width and thickness are 0 where there is none
 pub record BehindIn (p : Behind) : Type 0 where
   pub width : In (pos 0) (pos mostWidth) (p .width)
   pub thickness : In (pos 0) (pos mostThickness) (p .thickness)

@@ -143,9 +143,9 @@ printed c = judge (ℕ-discrete (checkedOf c .number) 0)
     judge (yes e) = rule e (firstLineOnly (verdictOf c .code)) refl
     judge (no n) = refused n (sym (session-refused c refl n))
 
--- as many tables as layers, and one, are printed exactly where tables are
-pub tables-counted : (c : Case) → (sessionOf c .tables ≡ c .grid .layers + 1) ↔ Tabled (sessionOf c)
-tables-counted c = (from (printed c), to (printed c))
+-- As many tables as there are layers, and one for the whole, are printed exactly where the case is not refused and the code is neither 21 nor 22.
+pub tables-exactly : (c : Case) → (sessionOf c .tables ≡ c .grid .layers + 1) ↔ Tabled (sessionOf c)
+tables-exactly c = (from (printed c), to (printed c))
   where
     from : Printed c → sessionOf c .tables ≡ c .grid .layers + 1 → Tabled (sessionOf c)
     from (refused n r) e = absurd (omega (arith, e, ap (λ s. s .tables) r))

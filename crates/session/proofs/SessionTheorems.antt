@@ -1,6 +1,6 @@
 -- What the program's numbers tell (document 01, "Numbers worked by hand"): of which case, which verdict, and which table stands where. Assumes nothing.
 use mathlib.Core.List.{List, _++_, append-assoc}
-use mathlib.Core.Logic.{_↔_, _≢_}
+use mathlib.Core.Logic.{_↔_}
 use mathlib.Core.Path.{_∙_, _≡_, ap, sym}
 use Prim.Native.Nat.{_*_, _+_, _<_, _≤_, ℕ}
 use native.Mathlib.Decide.{ℕ-discrete}
@@ -24,14 +24,10 @@ use Rattle.budget.proofs.BudgetTheorems.{layer-room-unread, layer-told, table-c
 use Rattle.casefile.specs.Reading.{readingOf}
 use Rattle.session.specs.Meaning.{Tabled, linesEach, printedTable}
 use Rattle.session.specs.Sessions.{caseIn, fileSession, layersOf, lentSlots, lentWidths, noTables, ruling, sessionOf, tablesOf}
-use Rattle.session.proofs.SessionLaws.{file-refused, file-unrefused, layer-among, layers-length, session-answered, tables-counted, tables-same, tables-told, whole-length}
+use Rattle.session.proofs.SessionLaws.{file-refused, file-unrefused, layer-among, layers-length, session-answered, tables-same, tables-told, whole-length}
 use Rattle.wellformed.proofs.RoomLaws.{Alike}
 
 -- ---- tables
-
--- As many tables as there are layers, and one for the whole, are printed exactly where the case is not refused and the code is neither 21 nor 22.
-pub tables-exactly : (c : Case) → (sessionOf c .tables ≡ c .grid .layers + 1) ↔ Tabled (sessionOf c)
-tables-exactly c = tables-counted c
 
 -- The lines of layer n + 1 stand in their place among those that are printed, and they are what `layer_table` answers without a refusal.
 pub layer-lines : (c : Case) → Tabled (sessionOf c) → (n : ℕ) → n < c .grid .layers

@@ -25,12 +25,14 @@ use Rattle.wellformed.specs.Widths.{areaOf, faceOf, widthAt}
 use Rattle.wellformed.specs.Links.{activeOf, liveOf}
 use Rattle.wellformed.specs.Limits.{acrossIn, blockIn, greatestOf}
 
+-- a place whose column and row have widths
 pub record Placed (columns rows : List ℤ) (p : Place) : Type 0 where
   pub column : p .column < length columns
   pub row : p .row < length rows
   pub column-width : Width (widthAt columns (p .column))
   pub row-width : Width (widthAt rows (p .row))
 
+-- so has the next one along a lateral axis
 abbrev pub Onward : List ℤ → List ℤ → Place → ℕ → Type 0
 Onward columns rows p zero = p .column + 1 < length columns
 Onward columns rows p (suc d) = p .row + 1 < length rows
@@ -40,6 +42,7 @@ Onward columns rows p (suc d) = p .row + 1 < length rows
 unfoldable pub farWithin : Face → ℤ → ℤ → Bool
 farWithin f K B = ltZ (pos 4 *ℤ K *ℤ B *ℤ f .across) (pos overConductance *ℤ ((f .low +ℤ f .high) *ℤ pos ticks))
 
+-- two active blocks and their face
 pub record Conducts (g : Grid) (f : Face) (a b : Block) : Type 0 where
   pub termed : Termed g
   pub face : FaceIn f
@@ -48,7 +51,7 @@ pub record Conducts (g : Grid) (f : Face) (a b : Block) : Type 0 where
   pub low-some : pos 1 ≤ℤ a .k
   pub high-some : pos 1 ≤ℤ b .k
 
--- it is not refused by 3, 7, 4, 5 and 6; by 9; by 10 for a face in either fluid, for leakage and for the boundary
+-- a case that is not refused by 3, 7, 4, 5 and 6; by 9; by 10 for a face in either fluid, for leakage and for the boundary
 pub record WellFormed (c : Case) : Type 0 where
   pub judged : Judged c
   pub stacked : (i : ℕ) → i < blocksOf (c .grid) → T (liveOf (c .grid) (c .slots) above i) → aquiferTopOf (blockIn c i) ≤ℤ acrossIn c above i .base
