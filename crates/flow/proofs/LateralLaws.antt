@@ -1,13 +1,13 @@
 -- What callers cite of a lateral face: bounds, and that the actual conductance never exceeds the one of refusal 10. Assumes nothing.
 use mathlib.Core.Bool.{Bool, cond, false, true}
 use mathlib.Core.List.{[], _∷_}
-use mathlib.Core.Path.{_≡_, subst}
+use mathlib.Core.Path.{_∙_, _≡_, ap, subst}
 use native.Mathlib.Omega.{arith}
 use lib.IntN.{_*ℤ_, _+ℤ_, _-ℤ_, pos, ℤ}
 use lib.Signed.{_≤ℤ_, leZ-yes, ltZ, ≤ℤ-refl}
 use Rattle.whole.specs.Inner.{Abs, In}
 use Rattle.whole.specs.Whole.{floorOf, maxℤ}
-use Rattle.whole.proofs.DivisionLaws.{floor-mono, floor-≤, floor-≥}
+use Rattle.whole.proofs.DivisionLaws.{floor-mono, floor-mul, floor-≤, floor-≥}
 use Rattle.whole.proofs.LinearLaws.{#, from1, from2, signed}
 use Rattle.whole.proofs.OrderLaws.{maxℤ-l, maxℤ-r, maxℤ-≤, mul-mono, mul-nonneg, ≤ℤ-trans}
 use Rattle.whole.proofs.RangeLaws.{no-less, ranges, within}
@@ -70,6 +70,14 @@ module _ (f : Face) (K1 K2 : ℤ) (h : FaceIn f) (k : In (pos 1) (pos mostFluidK
       let zero-one : pos 0 ≤ℤ pos 1 = leZ-yes tt in
       floor-≤ ((f .low +ℤ f .high) *ℤ K1 *ℤ K2) (f .low *ℤ K2 +ℤ f .high *ℤ K1) M face-divisor
       (dividend (f .low) (f .high) M (≤ℤ-trans zero-one (h .low .low)) (≤ℤ-trans zero-one (h .high .low)) (≤ℤ-trans zero-one (k .low)) (≤ℤ-trans zero-one (l .low)) p q)
+
+-- two blocks with one K: Kf is that K, whatever the widths
+pub face-k-equal : (f : Face) (K : ℤ) → FaceIn f → In (pos 1) (pos mostFluidK) K → faceKOf f K K ≡ K
+unfolding faceKOf
+face-k-equal f K h k = ap (λ z. floorOf z (f .low *ℤ K +ℤ f .high *ℤ K)) (turn (f .low) (f .high)) ∙ floor-mul K (f .low *ℤ K +ℤ f .high *ℤ K) (face-divisor f K K h k k)
+  where
+    turn : (a b : ℤ) → (a +ℤ b) *ℤ K *ℤ K ≡ K *ℤ (a *ℤ K +ℤ b *ℤ K)
+    turn a b = ring (a ∷ b ∷ K ∷ []) (search polynomials depth 40) (search polynomials depth 40) tt
 
 -- ---- conductance
 

@@ -13,6 +13,7 @@ use super::litres::litres;
 use block::units::TICKS;
 use whole::floor_div;
 use whole::greatest;
+use whole::is_zero;
 
 // The widths at a face, metres: of the two blocks along the line, and across it.
 pub struct Face {
@@ -35,13 +36,17 @@ pub struct Behind {
     pub thickness: i64,
 }
 
-// "Kf = floor((L1+L2)K1K2 / (L1K2+L2K1))", mm/day. Inner: widths and both K are in range.
+// "Kf = floor((L1+L2)K1K2 / (L1K2+L2K1))", mm/day. "Take the short way when the two values agree" (document 02, W-204): Kf is then that K.
+// Inner: widths and both K are in range.
 pub fn face_k(face: Face, low: i64, high: i64) -> i64
     requires { ⌜ FaceIn face ⌝ }
     requires { ⌜ In (pos 1) (pos mostFluidK) low ⌝ }
     requires { ⌜ In (pos 1) (pos mostFluidK) high ⌝ }
     ensures { λ r. ⌜ r ≡ faceKOf face low high ⌝ }
 {
+    if is_zero(low - high) {
+        return low;
+    }
     floor_div(
         (face.low + face.high) * low * high,
         face.low * high + face.high * low,

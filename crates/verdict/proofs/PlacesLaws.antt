@@ -13,7 +13,7 @@ use lib.Signed.{_<ℤ_, _≤ℤ_, ltZ}
 use Rattle.whole.specs.Sum.{count}
 use Rattle.whole.specs.Whole.{isZero}
 use Rattle.whole.proofs.LinearLaws.{#, from1, linear, signed}
-use Rattle.whole.proofs.OrderLaws.{zero-is}
+use Rattle.whole.proofs.OrderLaws.{none-apart}
 use Rattle.whole.proofs.RangeLaws.{lt-false, not-above}
 use Rattle.whole.proofs.SearchLaws.{holds, not-second, second-not}
 use Rattle.whole.proofs.SumLaws.{only-on}
@@ -113,7 +113,7 @@ still slots fluid i e a f = go (activeOf slots i) (fixedOf (blockOf slots i) flu
     old = inFluid (oldHeads (blockOf slots i)) fluid
 
     go : (a b z : Bool) → T a → T b → isZero (new -ℤ old) ≡ z → a && (b && not z) ≡ false → new ≡ old
-    go true true true s t h e = from1 (zero-is (new -ℤ old) (holds h)) (search (signed, # new, # old) depth 30) (omega arith)
+    go true true true s t h e = none-apart new old (holds h)
     go true true false s t h e = absurd (true≢false e)
     go true false z s t h e = absurd t
     go false b z s t h e = absurd s

@@ -110,6 +110,10 @@ pub zero-is : (z : ℤ) → T (isZero z) → z ≡ pos 0
 zero-is (pos a) t = ap pos (eqb→eq a 0 t)
 zero-is (negsuc a) t = absurd t
 
+-- two numbers with nothing between them
+pub none-apart : (a b : ℤ) → T (isZero (a -ℤ b)) → a ≡ b
+none-apart a b t = from1 (zero-is (a -ℤ b) t) (search (signed, # a, # b) depth 30) (omega arith)
+
 -- ---- sizes without sign
 pub abs-in : {m : ℕ} {z : ℤ} → natAbs z ≤ m → Abs m z
 abs-in {m} {z} h = record { low = from1 h (search (sizes, # z) depth 30) (omega arith); high = from1 h (search (sizes, # z) depth 30) (omega arith) }
