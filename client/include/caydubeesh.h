@@ -28,10 +28,10 @@
 #include <stdint.h>
 
 /* The version of this header; caydubeesh_version() gives that of the library that is linked. */
-#define CAYDUBEESH_VERSION "0.3.1"
+#define CAYDUBEESH_VERSION "0.4.0"
 #define CAYDUBEESH_VERSION_MAJOR 0
-#define CAYDUBEESH_VERSION_MINOR 3
-#define CAYDUBEESH_VERSION_PATCH 1
+#define CAYDUBEESH_VERSION_MINOR 4
+#define CAYDUBEESH_VERSION_PATCH 0
 
 /* How many numbers a record, a verdict, a table, a report and the slots of one block have. */
 #define CAYDUBEESH_RECORD 7
@@ -118,7 +118,7 @@ enum caydubeesh_line {
     CAYDUBEESH_LINE_CONVERTED = 3, /* what the fluid gains inside the zone by leakage that changes fluid */
     CAYDUBEESH_LINE_WELLS = 4,     /* negative where pumped */
     CAYDUBEESH_LINE_RECHARGE = 5,
-    CAYDUBEESH_LINE_BOUNDARY = 6,  /* what rivers and seas bring */
+    CAYDUBEESH_LINE_BOUNDARY = 6,  /* what rivers and seas bring; what comes in from a sea is salt water, so no sea adds to it in fresh water */
     CAYDUBEESH_LINE_SUPPLY = 7,    /* what fixed heads bring */
     CAYDUBEESH_LINE_ERROR = 8      /* the sum of the balances of free heads */
 };

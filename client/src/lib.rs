@@ -161,7 +161,7 @@ pub struct Lines {
     pub wells: i64,
     /// What recharge brings.
     pub recharge: i64,
-    /// What rivers and seas bring.
+    /// What rivers and seas bring. What comes in from a sea is salt water, so no sea adds to it in fresh water.
     pub boundary: i64,
     /// What fixed heads bring.
     pub supply: i64,

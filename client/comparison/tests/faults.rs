@@ -1,5 +1,6 @@
 //! An engine with a deliberate fault is found out by the same comparison that the archive passes.
 
+use caydubeesh::{kind, slot};
 use comparison::engines::{Archive, Engine, Reference};
 use comparison::generator;
 use comparison::slices::{place, Slices};
@@ -21,6 +22,7 @@ enum Fault {
     VerdictCountsOnePlace,
     TableOfZeros,
     BoundaryInOtherFluid,
+    SeaInflowUppermost,
     EdgesNetted,
     ReportOfHeldInterface,
     HalvesAwayFromZero,
@@ -30,6 +32,21 @@ enum Fault {
 
 /// The archive with a fault.
 struct Faulty(Fault);
+
+/// What a sea brings to a block that has fresh water on top, litres a day: what document 01 without W-201 counts in its fresh water. Such a
+/// block leaves both heads free, so that its error has it too.
+fn under_fresh(case: &Slices, number: usize) -> i64 {
+    let (mut marks, mut lines, mut metres) = (vec![0; case.blocks()], [0; 18], [0.0; 5]);
+    marks[number - 1] = 1;
+    Archive.zone_table(case, &marks, &mut lines, &mut 0);
+    Archive.report(case, number, &mut metres, &mut 0);
+    let is_under = case.block(number)[slot::KIND] == kind::SEA && metres[3] > 0.0;
+    if is_under {
+        lines[15].max(0)
+    } else {
+        0
+    }
+}
 
 impl Engine for Faulty {
     fn read(&self, file: &[u8], lent: &mut Slices, block: &mut usize) -> u64 {
@@ -75,6 +92,14 @@ impl Engine for Faulty {
         match self.0 {
             Fault::TableOfZeros if refusal == 0 => lines[..18].fill(0),
             Fault::BoundaryInOtherFluid if refusal == 0 => lines.swap(6, 15),
+            Fault::SeaInflowUppermost if refusal == 0 => {
+                let brought: i64 =
+                    (1..=case.blocks()).filter(|&number| marks[number - 1] == 1).map(|number| under_fresh(case, number)).sum();
+                for (fresh, salt) in [(6, 15), (8, 17)] {
+                    lines[fresh] += brought;
+                    lines[salt] -= brought;
+                }
+            }
             Fault::EdgesNetted if refusal == 0 => {
                 let both = lines[1].min(lines[2]);
                 lines[1..3].iter_mut().for_each(|line| *line -= both);
@@ -140,6 +165,7 @@ fn each_fault_is_found_in_its_function() {
         (Fault::VerdictCountsOnePlace, "verdict"),
         (Fault::TableOfZeros, "zone_table"),
         (Fault::BoundaryInOtherFluid, "zone_table"),
+        (Fault::SeaInflowUppermost, "zone_table"),
         (Fault::EdgesNetted, "zone_table"),
         (Fault::ReportOfHeldInterface, "report"),
         (Fault::HalvesAwayFromZero, "tick"),

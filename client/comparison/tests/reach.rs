@@ -44,6 +44,12 @@ const WANTED: [(usize, &[&str]); 3] = [
             "a head at an end of the range",
             "a balance that equals the tolerance",
             "a balance one above the tolerance",
+            "a sea that brings water under fresh water",
+            "a sea that brings water to salt water alone",
+            "a sea that takes fresh water",
+            "a sea that takes salt water",
+            "a sea that exchanges nothing",
+            "a river that brings fresh water",
         ],
     ),
     (
@@ -56,6 +62,8 @@ const WANTED: [(usize, &[&str]); 3] = [
             "a moved head of boundary 3",
             "a moved head of boundary 4",
             "a moved head of boundary 5",
+            "a river that brings salt water",
+            "less than ten litres of salt water brought",
         ],
     ),
 ];
@@ -114,6 +122,32 @@ impl Looked<'_> {
         self.add(format!("boundary {boundary}"));
         if has_moved {
             self.add(format!("a moved head of boundary {boundary}"));
+        }
+    }
+
+    /// What a river or sea exchanges with its block, by the table of that block alone.
+    fn look_at_boundary(&mut self, block: usize, fresh: i64) {
+        let mut marks = vec![0; self.case.blocks()];
+        marks[block - 1] = 1;
+        let mut lines = [0; 18];
+        if Archive.zone_table(self.case, &marks, &mut lines, &mut 0) != 0 {
+            return;
+        }
+        let boundary = [lines[6], lines[15]];
+        let name = match (self.case.block(block)[slot::KIND], boundary.map(i64::signum)) {
+            (kind::RIVER, [1, 0]) => "a river that brings fresh water",
+            (kind::RIVER, [0, 1]) => "a river that brings salt water",
+            (kind::SEA, [0, 1]) if fresh > 0 => "a sea that brings water under fresh water",
+            (kind::SEA, [0, 1]) => "a sea that brings water to salt water alone",
+            (kind::SEA, [-1, 0]) => "a sea that takes fresh water",
+            (kind::SEA, [0, -1]) => "a sea that takes salt water",
+            (kind::SEA, [0, 0]) => "a sea that exchanges nothing",
+            (kind::SEA, _) => panic!("a sea brings fresh water, or both: {boundary:?}"),
+            _ => return,
+        };
+        self.add(name);
+        if matches!(boundary, [0, litres] if (1..10).contains(&litres)) {
+            self.add("less than ten litres of salt water brought");
         }
     }
 
@@ -189,6 +223,7 @@ fn look(case: &Slices, answers: &[Answer]) -> BTreeSet<String> {
     for block in 1..=case.blocks() {
         if let Some(thickness) = looked.thicknesses[block - 1] {
             looked.look_at_block(block, thickness);
+            looked.look_at_boundary(block, thickness[0]);
         }
     }
     for mut line in if is_small { lines(case) } else { vec![] } {

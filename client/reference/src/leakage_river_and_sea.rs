@@ -1,4 +1,4 @@
-//! Document 01, "Leakage, river and sea".
+//! Document 01, "Leakage, river and sea", with W-201 of document 02.
 
 use crate::lateral_face::flow;
 use crate::one_block::Levels;
@@ -28,9 +28,15 @@ fn fluid_at_base(levels: &Levels) -> usize {
     }
 }
 
-/// "a river or sea exchanges the block's upper fluid (fresh if Bf > 0, else salt)".
-fn boundary_fluid(levels: &Levels) -> usize {
-    fluid_at_top(levels)
+/// "a river or sea exchanges the block's upper fluid (fresh if Bf > 0, else salt)". W-201: "From now on inflow through a sea boundary always
+/// enters the block's salt balance and the salt row's boundary line; outflow stays the uppermost fluid. Rivers do not change." Whole litres a
+/// day, above 0 into the block.
+fn boundary_fluid(kind: i64, upper_fluid: usize, litres: i64) -> usize {
+    if kind == SEA && litres > 0 {
+        SALT
+    } else {
+        upper_fluid
+    }
 }
 
 /// "the fresh head and the fresh equivalent of the salt one", in ticks: the head of a fluid at a level as one of fresh water.
@@ -106,9 +112,10 @@ pub(crate) fn boundary(record: &Record, block: &Block, levels: &Levels, area: i6
         return litres;
     }
     let boundary_head = if block.kind == SEA { sea_head(record, block.level) } else { block.level };
-    let fluid = boundary_fluid(levels);
-    let difference = boundary_head - head_as_fresh(record, block, fluid, block.aquifer_top());
-    litres[fluid] = flow(leakage_conductance(block.boundary_leakance, area), difference);
+    let upper_fluid = fluid_at_top(levels);
+    let difference = boundary_head - head_as_fresh(record, block, upper_fluid, block.aquifer_top());
+    let exchanged = flow(leakage_conductance(block.boundary_leakance, area), difference);
+    litres[boundary_fluid(block.kind, upper_fluid, exchanged)] = exchanged;
     litres
 }
 

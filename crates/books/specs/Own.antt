@@ -2,11 +2,11 @@
 use mathlib.Core.Bool.{Bool, _||_}
 use mathlib.Core.List.{List}
 use Prim.Native.Nat.{suc, zero, ℕ}
-use lib.IntN.{_-ℤ_, pos, ℤ}
-use Rattle.whole.specs.Whole.{isZero}
+use lib.IntN.{pos, ℤ}
 use Rattle.grid.specs.declared.Grid.{Grid}
 use Rattle.grid.specs.Place.{topOf}
 use Rattle.slots.specs.declared.Block.{Block}
+use Rattle.slots.specs.Rules.{isKind}
 use Rattle.slots.specs.Slots.{blockOf}
 use Rattle.slices.specs.Slices.{Case}
 use Rattle.block.specs.Fluids.{inFluid}
@@ -38,10 +38,6 @@ ownOf c fluid i =
       pumped = pumpedAt (c .grid) (c .slots) fluid i;
       storage = storageAt c fluid i;
     }
-
--- a block is of a boundary kind
-abbrev pub isKind : Block → ℤ → Bool
-isKind b kind = isZero (b .kind -ℤ kind)
 
 -- the kind that fixes the head of one fluid: "boundary kind | .. 3 fixed fresh, 4 fixed salt"
 abbrev pub fixingOf : ℕ → ℤ

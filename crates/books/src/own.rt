@@ -17,7 +17,7 @@ ghost use Rattle.block.specs.Wells.{lengthsOf, sharesOf};
 ghost use Rattle.wellformed.specs.Links.{activeOf};
 ghost use Rattle.wellformed.specs.Inner.{WellFormed};
 ghost use Rattle.books.specs.Inner.{Watered};
-ghost use Rattle.books.specs.Own.{ownOf, isKind, fixingOf, fixedOf};
+ghost use Rattle.books.specs.Own.{ownOf, fixingOf, fixedOf};
 use super::rows::pair;
 use super::waters::lengths_on;
 use block::Fluids;
@@ -36,8 +36,8 @@ use grid::place::has_next;
 use grid::units::ABOVE;
 use slots::Block;
 use slots::load;
+use slots::rules::is_kind;
 use wellformed::widths::area;
-use whole::is_zero;
 
 // A block's own terms in one fluid, litres a day: what recharge and boundary bring, what wells take, and what goes into storage.
 pub struct Own {
@@ -105,15 +105,6 @@ pub fn own_terms(
         pumped: pumped(own, thickness, fluid),
         storage: stored(g, own, top, over, thickness, fluid),
     }
-}
-
-// Whether a block is of a kind. Inner: the slots and the kind are within their ends.
-fn is_kind(block: Block, kind: i64) -> bool
-    requires { ⌜ Ends block ⌝ }
-    requires { ⌜ In (pos 0) (pos mostKind) kind ⌝ }
-    ensures { λ r. ⌜ r ≡ isKind block kind ⌝ }
-{
-    is_zero(block.kind - kind)
 }
 
 // The kind that fixes the head of one fluid: "3 fixed fresh, 4 fixed salt".

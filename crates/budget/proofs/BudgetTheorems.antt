@@ -39,11 +39,11 @@ use Rattle.verdict.specs.Acceptance.{Accepted}
 use Rattle.verdict.specs.Places.{freeAt, sizeOf}
 use Rattle.verdict.specs.Ruling.{verdictAnswer}
 use Rattle.verdict.proofs.VerdictTheorems.{slices-accepted-exactly}
-use Rattle.zone.specs.Accounts.{Adds, Apart, Closes, freeIn, joined}
+use Rattle.zone.specs.Accounts.{Adds, Apart, Closes, NoRiver, freeIn, joined}
 use Rattle.zone.specs.Table.{linesOf}
 use Rattle.zone.specs.Zones.{inZone, markedOf}
 use Rattle.zone.proofs.LinesLaws.{lines-same}
-use Rattle.zone.proofs.ZoneTheorems.{adds, closes, conversions-cancel, edges-not-negative, error-bounded, whole-no-edges}
+use Rattle.zone.proofs.ZoneTheorems.{adds, closes, conversions-cancel, edges-not-negative, error-bounded, fresh-boundary-not-positive, whole-no-edges}
 use Rattle.budget.specs.declared.Answer.{Answer}
 use Rattle.budget.specs.Meaning.{TableRefused, Tells, readOf, slices, thirteen}
 use Rattle.budget.specs.Answers.{caseRefusal, eighteenOf, everywhere, layerAnswer, layerZone, marksHold, marksReach, tableChecks, wholeAnswer, zoneAnswer, zoneRefusal}
@@ -182,6 +182,10 @@ tables-add c z w v a b both t u s apart alike fluid l =
 -- Edge in and edge out are never negative.
 pub edges-at-least-zero : (c : Case) (z : ℕ → Bool) (a : Answer) → Tells c z a → (fluid : ℕ) → fluid < 2 → (pos 0 ≤ℤ readOf a fluid .«edge_in») × (pos 0 ≤ℤ readOf a fluid .«edge_out»)
 edges-at-least-zero c z a t fluid l = rw (t .lines fluid l) (edges-not-negative (c .grid) (c .slots) (booksOf c fluid) z)
+
+-- W-201 of document 02: in a zone without rivers the fresh boundary line is never above 0. No fresh water comes out of the sea.
+pub sea-brings-no-fresh : (c : Case) (z : ℕ → Bool) (a : Answer) → Tells c z a → NoRiver c z → readOf a fresh .boundary ≤ℤ pos 0
+sea-brings-no-fresh c z a t none = rw (t .lines fresh (omega arith)) (fresh-boundary-not-positive c z none)
 
 -- What one fluid gains by conversion the other loses.
 pub converted-cancels : (c : Case) (z : ℕ → Bool) (a : Answer) → Tells c z a → readOf a fresh .converted +ℤ readOf a salt .converted ≡ pos 0

@@ -18,7 +18,7 @@ use Rattle.block.specs.Density.{freshEquivalentOf, interfaceOf, saltKOf, seaHea
 use Rattle.block.specs.Geometry.{aquiferTopOf, hasWaterTable, heldOf, levelsOf, saturatedTopOf, thicknessesOf}
 use Rattle.block.specs.Storage.{storageOf, volumeOf}
 use Rattle.block.specs.Wells.{freshShareOf, isDry, lengthWithin, lengthsOf, sharesOf}
-use Rattle.flow.specs.Boundary.{belowTop, boundaryHeadOf, boundaryOf, exchangeOf, gainOf, rechargeOf}
+use Rattle.flow.specs.Boundary.{belowTop, boundaryHeadOf, boundaryOf, exchangeOf, exchangedAs, gainOf, rechargeOf}
 use Rattle.flow.specs.Lateral.{conductanceOf, faceConductanceOf, faceKOf, faceThicknessOf, lateralOf, tipOf}
 use Rattle.flow.specs.Leakage.{differenceOf, leakageOf, lowermostOf, uppermostOf}
 use Rattle.flow.specs.Litres.{leavingOf, litresOf, overAreaOf}
@@ -50,7 +50,7 @@ printed =
 
 -- the whole is one layer, so that "all" and "layer 1" have the same lines
 pub printed-tables : (wholeAnswer printedCase ≡ given printed) × (layerAnswer printedCase 1 ≡ given printed)
-unfolding firstOf inRange placeOf slotsAt orElse firstRefusal hasNext nextOf aquiferTopOf saltKOf overAreaOf faceKOf conductanceOf areaAt liveOf overlaps greatestOf eitherExceeds faceExceeds aboveExceeds boundaryExceeds blockExceeds atFault firstAtFault limitsOf every allWithin topOf rangeOf endsHold screenWithin screensHold layerHolds boundaryHolds rulesHold allZero slotsHold countsHold termsHold roomHolds widthsHold faultOf shapeOf contentsOf sum back clampOf hasPrevious previousOf neighbourOf behindOf interfaceOf freshEquivalentOf seaHeadOf hasWaterTable saturatedTopOf heldOf levelsOf thicknessesOf volumeOf storageOf lengthWithin lengthsOf freshShareOf sharesOf belowTop rechargeOf boundaryHeadOf exchangeOf gainOf boundaryOf tipOf faceThicknessOf faceConductanceOf lateralOf uppermostOf lowermostOf differenceOf leakageOf litresOf leavingOf levelsAt watersOf booksOf broughtOf sideOf tipBehindOf lateralAt leakageAt namedOf pumpedAt storageAt ownOf fixedOf throughOf flowsOf balanceIn inZone edgeOf edgesOf changes convertedAt ownIn settledOf linesBy rowOf eighteenOf layerZone isDry dryAt dryOf layerAnswer wholeAnswer
+unfolding firstOf inRange placeOf slotsAt orElse firstRefusal hasNext nextOf aquiferTopOf saltKOf overAreaOf faceKOf conductanceOf areaAt liveOf overlaps greatestOf eitherExceeds faceExceeds aboveExceeds boundaryExceeds blockExceeds atFault firstAtFault limitsOf every allWithin topOf rangeOf endsHold screenWithin screensHold layerHolds boundaryHolds rulesHold allZero slotsHold countsHold termsHold roomHolds widthsHold faultOf shapeOf contentsOf sum back clampOf hasPrevious previousOf neighbourOf behindOf interfaceOf freshEquivalentOf seaHeadOf hasWaterTable saturatedTopOf heldOf levelsOf thicknessesOf volumeOf storageOf lengthWithin lengthsOf freshShareOf sharesOf belowTop rechargeOf boundaryHeadOf exchangeOf exchangedAs gainOf boundaryOf tipOf faceThicknessOf faceConductanceOf lateralOf uppermostOf lowermostOf differenceOf leakageOf litresOf leavingOf levelsAt watersOf booksOf broughtOf sideOf tipBehindOf lateralAt leakageAt namedOf pumpedAt storageAt ownOf fixedOf throughOf flowsOf balanceIn inZone edgeOf edgesOf changes convertedAt ownIn settledOf linesBy rowOf eighteenOf layerZone isDry dryAt dryOf layerAnswer wholeAnswer
 printed-tables = (refl, refl)
 
 -- A grid of two columns, two rows and three layers, of which 1 1 0 1, 0 0 1 0 and 0 1 1 1 are marked, layer by layer. The lines were worked out by
@@ -78,5 +78,5 @@ sevenMarks = pos 1 ∷ pos 1 ∷ pos 0 ∷ pos 1 ∷ pos 0 ∷ pos 0 ∷ pos 1 �
 pub seven-of-twelve : zoneAnswer twelveBlocks sevenMarks ≡ given (
     pos 1590585 ∷ pos 437293318 ∷ pos 5279 ∷ pos 10825962 ∷ pos 999892 ∷ pos 50000 ∷ pos 0 ∷ negℤ (pos 432589338) ∷ pos 14983970
     ∷ negℤ (pos 1590303) ∷ pos 86616726 ∷ pos 6825939 ∷ negℤ (pos 10825962) ∷ negℤ (pos 41) ∷ pos 0 ∷ negℤ (pos 624) ∷ pos 299004 ∷ pos 70853467 ∷ [])
-unfolding firstOf inRange placeOf slotsAt orElse firstRefusal hasNext nextOf aquiferTopOf saltKOf overAreaOf faceKOf conductanceOf areaAt liveOf overlaps greatestOf eitherExceeds faceExceeds aboveExceeds boundaryExceeds blockExceeds atFault firstAtFault limitsOf every allWithin topOf rangeOf endsHold screenWithin screensHold layerHolds openHolds boundaryHolds rulesHold allZero slotsHold countsHold termsHold roomHolds widthsHold faultOf shapeOf contentsOf sum back clampOf hasPrevious previousOf neighbourOf behindOf interfaceOf freshEquivalentOf seaHeadOf hasWaterTable saturatedTopOf heldOf levelsOf thicknessesOf volumeOf storageOf lengthWithin lengthsOf freshShareOf sharesOf belowTop rechargeOf boundaryHeadOf exchangeOf gainOf boundaryOf tipOf faceThicknessOf faceConductanceOf lateralOf uppermostOf lowermostOf differenceOf leakageOf litresOf leavingOf levelsAt watersOf booksOf broughtOf sideOf tipBehindOf lateralAt leakageAt namedOf pumpedAt storageAt ownOf fixedOf throughOf flowsOf balanceIn inZone edgeOf edgesOf changes convertedAt ownIn settledOf linesBy rowOf eighteenOf markedOf isDry dryAt dryOf lentOf zoneAnswer
+unfolding firstOf inRange placeOf slotsAt orElse firstRefusal hasNext nextOf aquiferTopOf saltKOf overAreaOf faceKOf conductanceOf areaAt liveOf overlaps greatestOf eitherExceeds faceExceeds aboveExceeds boundaryExceeds blockExceeds atFault firstAtFault limitsOf every allWithin topOf rangeOf endsHold screenWithin screensHold layerHolds openHolds boundaryHolds rulesHold allZero slotsHold countsHold termsHold roomHolds widthsHold faultOf shapeOf contentsOf sum back clampOf hasPrevious previousOf neighbourOf behindOf interfaceOf freshEquivalentOf seaHeadOf hasWaterTable saturatedTopOf heldOf levelsOf thicknessesOf volumeOf storageOf lengthWithin lengthsOf freshShareOf sharesOf belowTop rechargeOf boundaryHeadOf exchangeOf exchangedAs gainOf boundaryOf tipOf faceThicknessOf faceConductanceOf lateralOf uppermostOf lowermostOf differenceOf leakageOf litresOf leavingOf levelsAt watersOf booksOf broughtOf sideOf tipBehindOf lateralAt leakageAt namedOf pumpedAt storageAt ownOf fixedOf throughOf flowsOf balanceIn inZone edgeOf edgesOf changes convertedAt ownIn settledOf linesBy rowOf eighteenOf markedOf isDry dryAt dryOf lentOf zoneAnswer
 seven-of-twelve = refl

@@ -3,4 +3,5 @@ pub mod LitresLaws
 pub mod LateralLaws
 pub mod LeakageLaws
 pub mod BoundaryLaws
+pub mod BoundaryTheorems
 pub mod OutcomeTheorems

@@ -4,3 +4,4 @@ pub mod Lateral
 pub mod Leakage
 pub mod Boundary
 pub mod Inner
+pub mod Meaning

@@ -7,7 +7,7 @@ ghost use Rattle.grid.specs.Inner.{Termed};
 ghost use Rattle.slots.specs.Inner.{Ends};
 ghost use Rattle.block.specs.Inner.{Thick, mostArea};
 ghost use Rattle.flow.specs.Litres.{mostConductance, overAreaOf};
-ghost use Rattle.flow.specs.Boundary.{belowTop, rechargeOf, boundaryHeadOf, exchangeOf, gainOf, boundaryOf};
+ghost use Rattle.flow.specs.Boundary.{belowTop, rechargeOf, boundaryHeadOf, exchangeOf, exchangedAs, gainOf, boundaryOf};
 use super::leakage::fresh_head;
 use super::leakage::uppermost;
 use super::litres::litres;
@@ -18,9 +18,11 @@ use block::geometry::aquifer_top;
 use block::geometry::has_water_table;
 use block::new_heads;
 use block::units::FRESH;
+use block::units::SALT;
 use grid::Grid;
 use slots::Block;
 use slots::rules::is_open;
+use slots::rules::is_sea;
 
 // "In the top layer with flag 1 and Φf below the aquifer top". Inner: the slots are within their ends.
 fn below_top(g: Grid, block: Block, top: bool) -> bool
@@ -53,10 +55,10 @@ fn boundary_head(g: Grid, block: Block) -> i64
     requires { ⌜ Ends block ⌝ }
     ensures { λ r. ⌜ r ≡ boundaryHeadOf g block ⌝ }
 {
-    if block.kind <= 1 {
-        return block.level;
+    if is_sea(block) {
+        return sea_head(g, block.level);
     }
-    sea_head(g, block.level)
+    block.level
 }
 
 // What a river or a sea brings to a block whose upper fluid is `upper`, litres a day, negative where it takes, by the block's area in m².
@@ -73,11 +75,30 @@ fn exchange(g: Grid, block: Block, area: i64, upper: usize) -> i64
     litres(through, boundary_head(g, block) - own)
 }
 
-// What of an exchange counts for a block in a fluid, litres a day: it is of the block's upper fluid.
-fn gain(upper: usize, fluid: usize, flow: i64) -> i64
-    ensures { λ r. ⌜ r ≡ gainOf upper fluid flow ⌝ }
+// The fluid that an exchange of so many litres a day counts in, for a block whose upper fluid is `upper`: "inflow through a sea boundary always enters the
+// block's salt balance ..; outflow stays the uppermost fluid". Inner: the slots are within their ends.
+fn exchanged_as(block: Block, upper: usize, flow: i64) -> usize
+    requires { ⌜ Ends block ⌝ }
+    ensures { λ r. ⌜ r ≡ exchangedAs block upper flow ⌝ }
 {
-    if upper == fluid { flow } else { 0 }
+    if is_sea(block) {
+        if 0 < flow {
+            return SALT;
+        }
+    }
+    upper
+}
+
+// What of an exchange counts for a block in a fluid, litres a day. Inner: the slots are within their ends.
+fn gain(block: Block, upper: usize, fluid: usize, flow: i64) -> i64
+    requires { ⌜ Ends block ⌝ }
+    ensures { λ r. ⌜ r ≡ gainOf block upper fluid flow ⌝ }
+{
+    if exchanged_as(block, upper, flow) == fluid {
+        flow
+    } else {
+        0
+    }
 }
 
 // What a block gains in a fluid through its river or sea, litres a day, by its area in m² and the thickness of each fluid in ticks.
@@ -95,7 +116,7 @@ pub fn boundary(g: Grid, block: Block, top: bool, area: i64, thickness: Fluids, 
             return 0;
         }
         let upper = uppermost(thickness);
-        return gain(upper, fluid, exchange(g, block, area, upper));
+        return gain(block, upper, fluid, exchange(g, block, area, upper));
     }
     0
 }

@@ -1,7 +1,7 @@
 -- The rules that a block's slots follow beyond their ends (document 01, "Units and ranges").
 use mathlib.Core.Bool.{Bool, true, false, cond, _&&_, _||_}
 use mathlib.Core.List.{List}
-use lib.IntN.{ℤ, pos, _+ℤ_}
+use lib.IntN.{ℤ, pos, _+ℤ_, _-ℤ_}
 use lib.Signed.{leZ, ltZ}
 use Rattle.whole.specs.Whole.{isZero}
 use Rattle.whole.specs.Ranges.{between, inRange, allWithin}
@@ -33,6 +33,14 @@ layerHolds b false = isZero (b .recharge)
 -- "boundary kind | .. 1 river, 2 sea"
 abbrev pub isOpen : Block → Bool
 isOpen b = inRange (between (pos 1) (pos 2)) (b .kind)
+
+-- a block is of a boundary kind
+abbrev pub isKind : Block → ℤ → Bool
+isKind b kind = isZero (b .kind -ℤ kind)
+
+-- "boundary kind | .. 2 sea"
+abbrev pub isSea : Block → Bool
+isSea b = isKind b (pos 2)
 
 -- "boundary leakance | 1..=1,000,000"; "sea floor | -4,194,304..=0"
 unfoldable pub openHolds : ℤ → ℤ → ℤ → Bool

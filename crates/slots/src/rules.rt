@@ -2,9 +2,12 @@
 ghost use mathlib.Core.Path.{_≡_};
 ghost use mathlib.Core.Bool.{_&&_};
 ghost use Prim.Native.Nat.{_≤_};
+ghost use lib.IntN.{pos};
 ghost use lib.ListN.{length};
 ghost use Rattle.whole.specs.Whole.{isZero};
-ghost use Rattle.slots.specs.Rules.{allZero, screenWithin, screensHold, layerHolds, isOpen, openHolds, boundaryHolds, rulesHold, slotsHold};
+ghost use Rattle.whole.specs.Inner.{In};
+ghost use Rattle.slots.specs.Rules.{allZero, screenWithin, screensHold, layerHolds, isOpen, isKind, isSea, openHolds, boundaryHolds, rulesHold, slotsHold};
+ghost use Rattle.slots.specs.Units.{mostKind};
 ghost use Rattle.slots.specs.Inner.{Ends};
 use super::Block;
 use super::ranges::ends_hold;
@@ -97,6 +100,23 @@ pub fn is_open(block: Block) -> bool
     ensures { λ r. ⌜ r ≡ isOpen block ⌝ }
 {
     in_range(OPEN_KINDS, block.kind)
+}
+
+// Whether a block is of a kind. Inner: the slots and the kind are within their ends.
+pub fn is_kind(block: Block, kind: i64) -> bool
+    requires { ⌜ Ends block ⌝ }
+    requires { ⌜ In (pos 0) (pos mostKind) kind ⌝ }
+    ensures { λ r. ⌜ r ≡ isKind block kind ⌝ }
+{
+    whole::is_zero(block.kind - kind)
+}
+
+// Whether a block exchanges water with a sea. Inner: the slots are within their ends.
+pub fn is_sea(block: Block) -> bool
+    requires { ⌜ Ends block ⌝ }
+    ensures { λ r. ⌜ r ≡ isSea block ⌝ }
+{
+    is_kind(block, 2)
 }
 
 // "Kinds 1 and 2 occur only in the top layer." "Kinds other than 1 and 2 have zero in their two boundary slots."

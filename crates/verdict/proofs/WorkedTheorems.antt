@@ -12,7 +12,7 @@ use Rattle.block.specs.Density.{freshEquivalentOf, interfaceOf, saltKOf, seaHea
 use Rattle.block.specs.Geometry.{aquiferTopOf, hasWaterTable, heldOf, levelsOf, saturatedTopOf, thicknessesOf}
 use Rattle.block.specs.Storage.{storageOf, volumeOf}
 use Rattle.block.specs.Wells.{freshShareOf, isDry, lengthWithin, lengthsOf, sharesOf}
-use Rattle.flow.specs.Boundary.{belowTop, boundaryHeadOf, boundaryOf, exchangeOf, gainOf, rechargeOf}
+use Rattle.flow.specs.Boundary.{belowTop, boundaryHeadOf, boundaryOf, exchangeOf, exchangedAs, gainOf, rechargeOf}
 use Rattle.flow.specs.Lateral.{conductanceOf, faceConductanceOf, faceKOf, faceThicknessOf, lateralOf, tipOf}
 use Rattle.flow.specs.Leakage.{differenceOf, leakageOf, lowermostOf, uppermostOf}
 use Rattle.flow.specs.Litres.{leavingOf, litresOf, overAreaOf}
@@ -27,5 +27,5 @@ use Rattle.verdict.specs.Places.{countedAt, failsAt, freeAt, freeSizeOf,
 use Rattle.verdict.specs.Ruling.{byBalance, concerning, countOf, firstPlace, largestOf, verdictBy, verdictOf}
 
 pub printed-verdict : verdictOf printedCase ≡ record { code = 0; block = 0; count = 0; largest = pos 4 }
-unfolding firstOf mostOf count isDry dryAt movedAt freeAt failsAt countedAt freeSizeOf firstPlace countOf largestOf concerning byBalance verdictBy verdictOf inRange sum back clampOf placeOf topOf hasNext hasPrevious nextOf neighbourOf behindOf slotsAt interfaceOf saltKOf freshEquivalentOf seaHeadOf aquiferTopOf hasWaterTable saturatedTopOf heldOf levelsOf thicknessesOf volumeOf storageOf lengthWithin lengthsOf freshShareOf sharesOf belowTop rechargeOf boundaryHeadOf exchangeOf gainOf boundaryOf faceKOf conductanceOf tipOf faceThicknessOf faceConductanceOf lateralOf uppermostOf lowermostOf differenceOf leakageOf litresOf leavingOf overAreaOf liveOf areaAt levelsAt watersOf booksOf broughtOf sideOf tipBehindOf lateralAt leakageAt namedOf pumpedAt storageAt ownOf fixedOf throughOf flowsOf balanceIn balanceOf
+unfolding firstOf mostOf count isDry dryAt movedAt freeAt failsAt countedAt freeSizeOf firstPlace countOf largestOf concerning byBalance verdictBy verdictOf inRange sum back clampOf placeOf topOf hasNext hasPrevious nextOf neighbourOf behindOf slotsAt interfaceOf saltKOf freshEquivalentOf seaHeadOf aquiferTopOf hasWaterTable saturatedTopOf heldOf levelsOf thicknessesOf volumeOf storageOf lengthWithin lengthsOf freshShareOf sharesOf belowTop rechargeOf boundaryHeadOf exchangeOf exchangedAs gainOf boundaryOf faceKOf conductanceOf tipOf faceThicknessOf faceConductanceOf lateralOf uppermostOf lowermostOf differenceOf leakageOf litresOf leavingOf overAreaOf liveOf areaAt levelsAt watersOf booksOf broughtOf sideOf tipBehindOf lateralAt leakageAt namedOf pumpedAt storageAt ownOf fixedOf throughOf flowsOf balanceIn balanceOf
 printed-verdict = refl

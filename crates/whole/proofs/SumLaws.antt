@@ -196,10 +196,17 @@ sum-in n k t g l h =
     all : (n : ℕ) → count n (λ i. true) ≤ n
     all n = count-most n (λ i. true)
 
-pub sum-not-negative : (n : ℕ) (f : ℕ → ℤ) → ((i : ℕ) → pos 0 ≤ℤ f i) → pos 0 ≤ℤ sum n f
+-- terms that are no greater add up to no more
+pub sum-order : (n : ℕ) (f g : ℕ → ℤ) → ((i : ℕ) → i < n → f i ≤ℤ g i) → sum n f ≤ℤ sum n g
 unfolding sum
-sum-not-negative zero f h = ≤ℤ-refl (pos 0)
-sum-not-negative (suc n) f h = from2 (sum-not-negative n f h) (h n) (search (signed, # (sum n f), # (f n)) depth 30) (omega arith)
+sum-order zero f g h = ≤ℤ-refl (pos 0)
+sum-order (suc n) f g h = from2 (sum-order n f g (λ i l. h i (omega arith))) (h n (omega arith)) (search (signed, # (sum n f), # (f n), # (sum n g), # (g n)) depth 30) (omega arith)
+
+pub sum-not-negative : (n : ℕ) (f : ℕ → ℤ) → ((i : ℕ) → i < n → pos 0 ≤ℤ f i) → pos 0 ≤ℤ sum n f
+sum-not-negative n f h = rw (← sum-zero n) (sum-order n (λ i. pos 0) f h)
+
+pub sum-not-positive : (n : ℕ) (f : ℕ → ℤ) → ((i : ℕ) → i < n → f i ≤ℤ pos 0) → sum n f ≤ℤ pos 0
+sum-not-positive n f h = rw (← sum-zero n) (sum-order n f (λ i. pos 0) h)
 
 -- ---- how many pass a test: alike, and as a loop counts
 pub count-same : (n : ℕ) (f g : ℕ → Bool) → ((i : ℕ) → i < n → f i ≡ g i) → count n f ≡ count n g

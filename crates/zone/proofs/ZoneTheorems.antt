@@ -6,23 +6,29 @@ use Prim.Native.Nat.{_*_, _+_, _<_, _≤_, ℕ}
 use native.Mathlib.Omega.{arith}
 use lib.Dec.{T}
 use lib.IntN.{+ℤ-idl, +ℤ-idr, _+ℤ_, _-ℤ_, natAbs, negℤ, pos, ℤ}
-use lib.Signed.{_≤ℤ_}
+use lib.Signed.{_≤ℤ_, ≤ℤ-refl}
 use Rattle.whole.specs.Sum.{count, only, sum}
 use Rattle.whole.proofs.LinearLaws.{#, linear, signed}
 use Rattle.whole.proofs.OrderLaws.{maxℤ-l}
-use Rattle.whole.proofs.SumLaws.{sum-add, sum-bound, sum-none, sum-not-negative, sum-same}
+use Rattle.whole.proofs.SumLaws.{sum-add, sum-bound, sum-none, sum-not-negative, sum-not-positive, sum-same}
 use Rattle.grid.specs.declared.Grid.{Grid}
 use Rattle.grid.specs.Inner.{Counted}
-use Rattle.grid.specs.Place.{blocksOf, strideOf}
+use Rattle.grid.specs.Place.{blocksOf, strideOf, topOf}
 use Rattle.grid.specs.Units.{above}
+use Rattle.slots.specs.Rules.{isKind}
 use Rattle.slices.specs.Slices.{Case}
 use Rattle.block.specs.Fluids.{fresh, salt}
+use Rattle.flow.proofs.BoundaryTheorems.{no-river-no-fresh}
+use Rattle.wellformed.specs.Limits.{blockIn}
 use Rattle.wellformed.specs.Links.{activeOf}
+use Rattle.wellformed.specs.Widths.{areaOf}
 use Rattle.books.specs.declared.own.Own.{Own}
 use Rattle.books.specs.Bookkeeping.{Books, booksOf, broughtOf}
+use Rattle.books.specs.Own.{ownOf}
+use Rattle.books.specs.Waters.{watersOf}
 use Rattle.books.proofs.BooksTheorems.{leakage-shared}
 use Rattle.balance.specs.Balance.{balanceIn, flowsOf}
-use Rattle.zone.specs.Accounts.{Adds, Apart, Closes, freeIn, joined}
+use Rattle.zone.specs.Accounts.{Adds, Apart, Closes, NoRiver, freeIn, joined}
 use Rattle.zone.specs.Exchange.{changes, convertedAt, edgeOf, edgesOf}
 use Rattle.zone.specs.Holdings.{nothing, ownIn, settledOf}
 use Rattle.zone.specs.Table.{linesBy, linesOf}
@@ -91,8 +97,8 @@ adds c counted z w apart fluid =
 pub edges-not-negative : (g : Grid) (slots : List ℤ) (F : Books) (z : ℕ → Bool) → (pos 0 ≤ℤ linesBy g slots F z .«edge_in») × (pos 0 ≤ℤ linesBy g slots F z .«edge_out»)
 unfolding linesBy edgesOf
 edges-not-negative g slots F z = (
-  sum-not-negative (blocksOf g) _ (λ i. sum-not-negative 3 _ (λ d. maxℤ-l (pos 0) (edgeOf g F z d i))),
-  sum-not-negative (blocksOf g) _ (λ i. sum-not-negative 3 _ (λ d. maxℤ-l (pos 0) (negℤ (edgeOf g F z d i)))),
+  sum-not-negative (blocksOf g) _ (λ i l. sum-not-negative 3 _ (λ d k. maxℤ-l (pos 0) (edgeOf g F z d i))),
+  sum-not-negative (blocksOf g) _ (λ i l. sum-not-negative 3 _ (λ d k. maxℤ-l (pos 0) (negℤ (edgeOf g F z d i)))),
 )
 
 -- Where every block is marked, nothing crosses an edge.
@@ -102,6 +108,17 @@ whole-no-edges g slots F = (
   sum-none (blocksOf g) _ (λ i l. sum-none 3 _ (λ d k. refl)),
   sum-none (blocksOf g) _ (λ i l. sum-none 3 _ (λ d k. refl)),
 )
+
+-- ---- boundary
+
+-- W-201 of document 02: the fresh boundary line of a zone without rivers is never above 0. No fresh water comes out of the sea.
+pub fresh-boundary-not-positive : (c : Case) (z : ℕ → Bool) → NoRiver c z → linesOf c z fresh .boundary ≤ℤ pos 0
+unfolding linesBy ownIn ownOf booksOf
+fresh-boundary-not-positive c z none = sum-not-positive (blocksOf (c .grid)) _ (λ i l. go i (inZone (c .slots) z i) (none i l))
+  where
+    go : (i : ℕ) (marked : Bool) → (T marked → isKind (blockIn c i) (pos 1) ≡ false) → cond marked (booksOf c fresh .own i) nothing .boundary ≤ℤ pos 0
+    go i true h = no-river-no-fresh (c .grid) (blockIn c i) (topOf (c .grid) i) (areaOf c i) (watersOf (c .grid) (c .slots) i) (h tt)
+    go i false h = ≤ℤ-refl (pos 0)
 
 -- ---- converted
 

@@ -1,13 +1,16 @@
 -- What the theorems about tables speak of (the client's demand 3; document 01, "Balance, verdict, table").
-use mathlib.Core.Bool.{Bool, _&&_, _||_, not}
+use mathlib.Core.Bool.{Bool, _&&_, _||_, false, not}
 use mathlib.Core.List.{List}
 use mathlib.Core.Path.{_≡_}
 use Prim.Native.Nat.{_<_, ℕ}
 use lib.Dec.{T}
-use lib.IntN.{_+ℤ_, _-ℤ_, ℤ}
+use lib.IntN.{_+ℤ_, _-ℤ_, pos, ℤ}
 use Rattle.whole.specs.Sum.{sum}
 use Rattle.grid.specs.declared.Grid.{Grid}
 use Rattle.grid.specs.Place.{blocksOf}
+use Rattle.slots.specs.Rules.{isKind}
+use Rattle.slices.specs.Slices.{Case}
+use Rattle.wellformed.specs.Limits.{blockIn}
 use Rattle.books.specs.Bookkeeping.{Books}
 use Rattle.zone.specs.declared.lines.Lines.{Lines}
 use Rattle.zone.specs.Zones.{inZone}
@@ -50,6 +53,10 @@ Apart g z w = (i : ℕ) → i < blocksOf g → T (not (z i && w i))
 -- of demand 3: "the joined zone"
 abbrev pub joined : (ℕ → Bool) → (ℕ → Bool) → ℕ → Bool
 joined z w i = z i || w i
+
+-- no block of the zone is of kind "1 river", so that what exchanges water there is a sea
+abbrev pub NoRiver : Case → (ℕ → Bool) → Type 0
+NoRiver c z = (i : ℕ) → i < blocksOf (c .grid) → T (inZone (c .slots) z i) → isKind (blockIn c i) (pos 1) ≡ false
 
 -- of demand 3: "the zone's active blocks that are free in that fluid", by the fluid's books
 unfoldable pub freeIn : List ℤ → Books → (ℕ → Bool) → ℕ → Bool

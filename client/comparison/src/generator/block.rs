@@ -11,7 +11,7 @@ use crate::slices::SLOTS;
 pub fn active_block(dice: &mut Dice, style: &Style, [base, thickness]: [i64; 2], layer: usize, distance: usize) -> [i64; SLOTS] {
     let (top, is_top) = (base + thickness, layer + 1 == style.layers);
     let new = new_heads(dice, style, base, top, distance);
-    let boundary = boundary(dice, style, is_top, new[0]);
+    let boundary = boundary(dice, style, is_top.then_some(top), new);
     let old = old_heads(dice, style, boundary[0], new);
     let mut slots = [0; SLOTS];
     slots[slot::K] = style.layer_k.as_ref().map_or_else(|| dice.from(1, style.most_k), |k| k[layer]);
@@ -104,16 +104,22 @@ fn well(dice: &mut Dice, base: i64, top: i64, wet: i64) -> [i64; 3] {
     [dice.signed(size), bottom, upper]
 }
 
-/// Kind, level and leakance of a boundary; rivers and seas in the top layer only.
-fn boundary(dice: &mut Dice, style: &Style, is_top: bool, head: i64) -> [i64; 3] {
+/// Kind, level and leakance of a boundary; rivers and seas in the top layer only, where the block's top is given.
+fn boundary(dice: &mut Dice, style: &Style, top: Option<i64>, heads: [i64; 2]) -> [i64; 3] {
     if !dice.one_in(style.boundaries) {
         return [0; 3];
     }
-    match dice.from(if is_top { kind::RIVER } else { kind::FIXED_FRESH }, kind::BOTH_FIXED) {
-        kind::RIVER => [kind::RIVER, stage(dice, head), dice.from(1, style.most_leakance)],
-        kind::SEA => [kind::SEA, sea_floor(dice), dice.from(1, style.most_leakance)],
-        fixed => [fixed, 0, 0],
+    match (dice.from(if top.is_some() { kind::RIVER } else { kind::FIXED_FRESH }, kind::BOTH_FIXED), top) {
+        (kind::RIVER, _) => [kind::RIVER, stage(dice, heads[0]), boundary_leakance(dice, style)],
+        (kind::SEA, Some(top)) => [kind::SEA, sea_floor(dice, style.delta, heads, top), boundary_leakance(dice, style)],
+        (fixed, _) => [fixed, 0, 0],
     }
+}
+
+/// Mostly anything up to the case's greatest, else one so small that few litres pass.
+fn boundary_leakance(dice: &mut Dice, style: &Style) -> i64 {
+    let most = if dice.one_in(3) { 9 } else { style.most_leakance };
+    dice.from(1, most.min(style.most_leakance))
 }
 
 fn stage(dice: &mut Dice, head: i64) -> i64 {
@@ -124,11 +130,18 @@ fn stage(dice: &mut Dice, head: i64) -> i64 {
     }
 }
 
-fn sea_floor(dice: &mut Dice) -> i64 {
-    match dice.below(6) {
+/// A floor, often one at which the sea's head, the depth over δ, is about the block's own: the fresh head, or the salt one in fresh water at
+/// the block's top. Then the sea brings or takes little or nothing.
+fn sea_floor(dice: &mut Dice, delta: i64, [fresh, salt]: [i64; 2], top: i64) -> i64 {
+    match dice.below(9) {
         0 => 0,
         1 => -LEVEL,
         2 => -dice.from(0, 200),
-        _ => -dice.from(0, 400_000),
+        3..=5 => -dice.from(0, 400_000),
+        _ => {
+            let own = dice.pick(&[fresh, ((delta + 1) * salt - top).div_euclid(delta)]);
+            let apart = dice.pick(&[3, 300]);
+            (-delta * (own + dice.from(-apart, apart))).clamp(-LEVEL, 0)
+        }
     }
 }

@@ -4,7 +4,8 @@ use mir.Syntax.{w64}
 use mir.Val.{ofZ, toZ}
 use borrow.Author.Needs.{needs}
 use Rattle.whole.proofs.RangeLaws.{answer}
-use Rattle.books.specs.Own.{fixedOf, fixingOf, isKind}
+use Rattle.slots.specs.Rules.{isKind}
+use Rattle.books.specs.Own.{fixedOf, fixingOf}
 use Rattle.books.proofs.OwnLaws.{fixing-in}
 use Rattle.books.proofs.own.is_fixed.Statement.{statement}
 use Rattle.books.proofs.own.is_fixed.Tie as tie

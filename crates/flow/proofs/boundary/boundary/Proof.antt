@@ -25,7 +25,7 @@ returns-2 : tie.Need-returns-2
 unfolding boundaryOf
 returns-2 c =
     rw (sym (c .before .before .before .before .before .before .is-open .ensures) ∙ c .before .before .before .before .before .if1 .taken, sym (c .before .before .before .before .below-top .ensures) ∙ c .before .before .before .if2 .left)
-    (answer (c .gain .ok) (c .gain .ensures ∙ (λ i. gainOf (c .before .before .uppermost .ensures i) (c .before .before .before .before .before .before .before .args .fluid) (exchange-told (c .before) i))))
+    (answer (c .gain .ok) (c .gain .ensures ∙ (λ i. gainOf (c .before .before .before .before .before .before .before .args .block) (c .before .before .uppermost .ensures i) (c .before .before .before .before .before .before .before .args .fluid) (exchange-told (c .before) i))))
 
 returns-3 : tie.Need-returns-3
 unfolding boundaryOf

@@ -6,8 +6,8 @@ use mir.Val.{ofZ, toZ}
 use borrow.Author.Needs.{needs}
 use Rattle.whole.specs.Whole.{isZero}
 use Rattle.whole.proofs.RangeLaws.{exact, fits, leaf, ranges}
-use Rattle.books.proofs.own.is_kind.Statement.{statement}
-use Rattle.books.proofs.own.is_kind.Tie as tie
+use Rattle.slots.proofs.rules.is_kind.Statement.{statement}
+use Rattle.slots.proofs.rules.is_kind.Tie as tie
 
 apart : (c : tie.Start) → toZ w64 (ofZ w64 (toZ w64 (ofZ w64 (c .args .block .kind)) -ℤ toZ w64 (ofZ w64 (c .args .kind)))) ≡ c .args .block .kind -ℤ c .args .kind
 apart c = exact (search (ranges, leaf (c .pre .0 .kind), leaf (c .pre .1)) depth 20)
