@@ -28,9 +28,9 @@
 #include <stdint.h>
 
 /* The version of this header; caydubeesh_version() gives that of the library that is linked. */
-#define CAYDUBEESH_VERSION "0.4.0"
+#define CAYDUBEESH_VERSION "0.5.0"
 #define CAYDUBEESH_VERSION_MAJOR 0
-#define CAYDUBEESH_VERSION_MINOR 4
+#define CAYDUBEESH_VERSION_MINOR 5
 #define CAYDUBEESH_VERSION_PATCH 0
 
 /* How many numbers a record, a verdict, a table, a report and the slots of one block have. */
@@ -110,7 +110,8 @@ enum caydubeesh_code {
 };
 
 /* The lines of a table in one fluid, litres a day. Lines 0 to 8 of a table are those of fresh water, 9 to 17 the same of salt water. In each fluid
-   storage + error = edge in - edge out + converted + wells + recharge + boundary + supply. */
+   storage + error = edge in - edge out + converted + wells + recharge + boundary + supply. What flows from block to block, and to or from a river or sea,
+   is rounded to the nearest litre, halves away from zero; storage rates and well shares are cut toward zero, recharge is rounded down. */
 enum caydubeesh_line {
     CAYDUBEESH_LINE_STORAGE = 0,   /* what the zone's blocks store */
     CAYDUBEESH_LINE_EDGE_IN = 1,   /* what comes in through the zone's edge, never negative */

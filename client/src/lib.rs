@@ -146,7 +146,8 @@ impl Verdict {
 }
 
 /// The lines of a zone's water account in one fluid, litres a day. They close: storage + error = edge_in - edge_out + converted + wells + recharge +
-/// boundary + supply.
+/// boundary + supply. What flows from block to block, and to or from a river or sea, is rounded to the nearest litre, halves away from zero; storage
+/// rates and well shares are cut toward zero, recharge is rounded down.
 #[derive(Clone, Copy, Debug, PartialEq, Eq)]
 pub struct Lines {
     /// What the zone's blocks store.

@@ -41,7 +41,7 @@ fn printed_table_of_the_whole() {
 
 #[test]
 fn printed_tables_of_the_blocks() {
-    // C is 600,000 and the heads differ by one tick: cut(600,000 / 4,096) = 146 litres a day go from block 1 to block 2.
+    // C is 600,000 and the heads differ by one tick: 600,000 / 4,096 = 146.48, so 146 litres a day go from block 1 to block 2.
     let case = Slices::printed();
     assert_eq!(case.table(&[1, 0]), Ok([[0, 0, 146, 0, 0, 0, 0, 146, 0], [0; 9]]));
     assert_eq!(case.table(&[0, 1]), Ok([[0, 146, 0, 0, -150, 0, 0, 0, -4], [0; 9]]));
@@ -72,11 +72,21 @@ fn tolerance_one_litre_less_is_code_23() {
 
 #[test]
 fn salt_balance_is_code_24() {
-    // Salt thicknesses 40,960 and 40,919, salt K 10,250: C is 102,447, and cut(102,447 / 4,096) = 25 litres a day of salt water come to block 2.
+    // Salt thicknesses 40,960 and 40,919, salt K 10,250: C is 102,447, and 102,447 / 4,096 = 25.01, so 25 litres a day of salt water come to block 2.
     let fresh_head = |case: Slices, block| case.with(block, 12, 4_096).with(block, 14, 4_096);
     let case = fresh_head(fresh_head(Slices::printed(), 1), 2).with(2, 9, 3).with(2, 13, -1).with(2, 15, -1);
     assert_eq!(case.verdict(), Ok([24, 2, 1, 25]));
     assert_eq!(case.table(&[0, 1]), Ok([[0, 0, 0, 0, -150, 0, 0, 150, 0], [0, 25, 0, 0, 0, 0, 0, 0, 25]]));
+}
+
+#[test]
+fn half_a_litre_goes_away_from_zero() {
+    // C is 600,000, and 32 ticks carry 4,687.5 litres a day, forth and back; 31 carry 4,541.02 and 33 carry 4,833.98.
+    let apart = |ticks: i64| Slices::printed().with(2, 12, 8_192 - ticks).with(2, 14, 8_192 - ticks).table(&[1, 0]);
+    let out = |litres: i64| Ok([[0, 0, litres, 0, 0, 0, 0, litres, 0], [0; 9]]);
+    let back = |litres: i64| Ok([[0, litres, 0, 0, 0, 0, 0, -litres, 0], [0; 9]]);
+    assert_eq!([31, 32, 33].map(apart), [4_541, 4_688, 4_834].map(out));
+    assert_eq!([-31, -32, -33].map(apart), [4_541, 4_688, 4_834].map(back));
 }
 
 #[test]

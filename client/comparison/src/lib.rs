@@ -2,11 +2,12 @@
 //!
 //! An input (`input`) is all that is lent to the functions that are asked about it. It is made from a seed (`generator`), read from a line
 //! that was kept (`kept`), or stored in the repository with its answer (`stored`). Two engines (`engines`) are asked the same, and their
-//! answers (`answers`) are compared whole and counted (`tally`).
+//! answers (`answers`) are compared whole and counted (`tally`). Tests look at some flows before they are rounded (`exact`).
 
 pub mod answers;
 pub mod dice;
 pub mod engines;
+pub mod exact;
 pub mod generator;
 pub mod input;
 mod json;

@@ -2,6 +2,7 @@
 
 use caydubeesh::{kind, slot};
 use comparison::engines::{Archive, Engine, Reference};
+use comparison::exact;
 use comparison::generator;
 use comparison::slices::{place, Slices};
 use comparison::tally::Tally;
@@ -23,6 +24,8 @@ enum Fault {
     TableOfZeros,
     BoundaryInOtherFluid,
     SeaInflowUppermost,
+    FlowsCut,
+    HalfLitresTowardZero,
     EdgesNetted,
     ReportOfHeldInterface,
     HalvesAwayFromZero,
@@ -36,16 +39,30 @@ struct Faulty(Fault);
 /// What a sea brings to a block that has fresh water on top, litres a day: what document 01 without W-201 counts in its fresh water. Such a
 /// block leaves both heads free, so that its error has it too.
 fn under_fresh(case: &Slices, number: usize) -> i64 {
-    let (mut marks, mut lines, mut metres) = (vec![0; case.blocks()], [0; 18], [0.0; 5]);
+    let (mut marks, mut lines) = (vec![0; case.blocks()], [0; 18]);
     marks[number - 1] = 1;
     Archive.zone_table(case, &marks, &mut lines, &mut 0);
-    Archive.report(case, number, &mut metres, &mut 0);
-    let is_under = case.block(number)[slot::KIND] == kind::SEA && metres[3] > 0.0;
+    let is_under = case.block(number)[slot::KIND] == kind::SEA && matches!(exact::thickness(case, number), Some([fresh, _]) if fresh > 0);
     if is_under {
         lines[15].max(0)
     } else {
         0
     }
+}
+
+/// What rounding to the nearest litre adds to the exchange with a river over fresh water that is cut, as document 01 has it without W-206.
+fn beyond_cut(case: &Slices, number: usize) -> i64 {
+    exact::river(case, number).map_or(0, |parts| parts % exact::PARTS * 2 / exact::PARTS)
+}
+
+/// What rounding halves away from zero adds to the exchange with such a river where they are rounded toward zero.
+fn beyond_half(case: &Slices, number: usize) -> i64 {
+    exact::river(case, number).filter(|&parts| exact::is_half(parts)).map_or(0, i64::signum)
+}
+
+/// The sum of some litres a day over the marked blocks.
+fn over_marked(case: &Slices, marks: &[i64], litres: fn(&Slices, usize) -> i64) -> i64 {
+    (1..=case.blocks()).filter(|&number| marks[number - 1] == 1).map(|number| litres(case, number)).sum()
 }
 
 impl Engine for Faulty {
@@ -93,12 +110,20 @@ impl Engine for Faulty {
             Fault::TableOfZeros if refusal == 0 => lines[..18].fill(0),
             Fault::BoundaryInOtherFluid if refusal == 0 => lines.swap(6, 15),
             Fault::SeaInflowUppermost if refusal == 0 => {
-                let brought: i64 =
-                    (1..=case.blocks()).filter(|&number| marks[number - 1] == 1).map(|number| under_fresh(case, number)).sum();
+                let brought = over_marked(case, marks, under_fresh);
                 for (fresh, salt) in [(6, 15), (8, 17)] {
                     lines[fresh] += brought;
                     lines[salt] -= brought;
                 }
+            }
+            // A river's block leaves both heads free, so that its error has what the boundary line has.
+            Fault::FlowsCut if refusal == 0 => {
+                let beyond = over_marked(case, marks, beyond_cut);
+                [6, 8].into_iter().for_each(|line| lines[line] -= beyond);
+            }
+            Fault::HalfLitresTowardZero if refusal == 0 => {
+                let beyond = over_marked(case, marks, beyond_half);
+                [6, 8].into_iter().for_each(|line| lines[line] -= beyond);
             }
             Fault::EdgesNetted if refusal == 0 => {
                 let both = lines[1].min(lines[2]);
@@ -166,6 +191,8 @@ fn each_fault_is_found_in_its_function() {
         (Fault::TableOfZeros, "zone_table"),
         (Fault::BoundaryInOtherFluid, "zone_table"),
         (Fault::SeaInflowUppermost, "zone_table"),
+        (Fault::FlowsCut, "zone_table"),
+        (Fault::HalfLitresTowardZero, "zone_table"),
         (Fault::EdgesNetted, "zone_table"),
         (Fault::ReportOfHeldInterface, "report"),
         (Fault::HalvesAwayFromZero, "tick"),

@@ -6,6 +6,7 @@ use std::collections::{BTreeMap, BTreeSet};
 use caydubeesh::{kind, slot};
 use comparison::answers::{answers, Answer};
 use comparison::engines::{Archive, Engine};
+use comparison::exact;
 use comparison::generator;
 use comparison::generator::ranges::LEVEL;
 use comparison::input::Input;
@@ -50,6 +51,10 @@ const WANTED: [(usize, &[&str]); 3] = [
             "a sea that takes salt water",
             "a sea that exchanges nothing",
             "a river that brings fresh water",
+            "half a litre through a face, to the next block",
+            "half a litre through a face, from the next block",
+            "half a litre of leakage, up",
+            "half a litre of leakage, down",
         ],
     ),
     (
@@ -64,6 +69,8 @@ const WANTED: [(usize, &[&str]); 3] = [
             "a moved head of boundary 5",
             "a river that brings salt water",
             "less than ten litres of salt water brought",
+            "half a litre from a river",
+            "half a litre to a river",
         ],
     ),
 ];
@@ -151,6 +158,23 @@ impl Looked<'_> {
         }
     }
 
+    /// Flows that are exactly half a litre beyond a whole number, forth and back.
+    fn look_at_halves(&mut self, block: usize) {
+        let (case, face) =
+            (self.case, ["half a litre through a face, to the next block", "half a litre through a face, from the next block"]);
+        let flows = [
+            (exact::lateral(case, block, 0), face),
+            (exact::lateral(case, block, 1), face),
+            (exact::leakage(case, block), ["half a litre of leakage, up", "half a litre of leakage, down"]),
+            (exact::river(case, block), ["half a litre from a river", "half a litre to a river"]),
+        ];
+        for (parts, [forth, back]) in flows.into_iter().filter_map(|(flow, names)| Some((flow?, names))) {
+            if exact::is_half(parts) {
+                self.add(if parts > 0 { forth } else { back });
+            }
+        }
+    }
+
     /// What lies behind the tips of a line, going from its first block to its last.
     fn look_at_tips(&mut self, line: &[usize], fluid: usize) {
         let held = |index: usize| self.thicknesses[line[index] - 1].map(|thickness| thickness[fluid]);
@@ -192,16 +216,6 @@ impl Looked<'_> {
     }
 }
 
-/// Fresh and salt thickness of each block, none of an inactive one.
-fn thicknesses(case: &Slices) -> Vec<Option<[i64; 2]>> {
-    let thickness = |block: usize| {
-        let mut metres = [0.0; 5];
-        let refusal = Archive.report(case, block, &mut metres, &mut 0);
-        (refusal == 0).then_some([metres[3], metres[4]].map(|thickness| (thickness * 4_096.0) as i64))
-    };
-    (1..=case.blocks()).map(thickness).collect()
-}
-
 /// The lines of blocks along the rows and the columns of each layer.
 fn lines(case: &Slices) -> Vec<Vec<usize>> {
     let (columns, rows) = (case.columns.len(), case.rows.len());
@@ -216,7 +230,7 @@ fn lines(case: &Slices) -> Vec<Vec<usize>> {
 /// What is found in a case that passes; of a large one only its record.
 fn look(case: &Slices, answers: &[Answer]) -> BTreeSet<String> {
     let is_small = case.blocks() <= 64;
-    let thicknesses = if is_small { thicknesses(case) } else { vec![None; case.blocks()] };
+    let thicknesses = (1..=case.blocks()).map(|block| if is_small { exact::thickness(case, block) } else { None }).collect();
     let mut looked = Looked { case, thicknesses, found: BTreeSet::new() };
     looked.look_at_record();
     looked.look_at_answers(answers);
@@ -224,6 +238,7 @@ fn look(case: &Slices, answers: &[Answer]) -> BTreeSet<String> {
         if let Some(thickness) = looked.thicknesses[block - 1] {
             looked.look_at_block(block, thickness);
             looked.look_at_boundary(block, thickness[0]);
+            looked.look_at_halves(block);
         }
     }
     for mut line in if is_small { lines(case) } else { vec![] } {

@@ -37,7 +37,7 @@ fn told(answer: &Answer, word: &str, numbers: &[i64]) -> String {
 #[test]
 fn there_are_so_many() {
     let Vectors { cases, reads, slices, tables, reports, doubles } = vectors();
-    assert_eq!([&cases, &reads, &slices, &tables, &reports, &doubles].map(Vec::len), [555, 120, 219, 156, 121, 407]);
+    assert_eq!([&cases, &reads, &slices, &tables, &reports, &doubles].map(Vec::len), [672, 120, 281, 210, 121, 407]);
 }
 
 #[test]
@@ -106,7 +106,7 @@ fn examples() {
     let folder = Path::new(env!("CARGO_MANIFEST_DIR")).join("../../examples");
     let paths = fs::read_dir(folder).unwrap().map(|entry| entry.unwrap().path());
     let cases: Vec<_> = paths.filter(|path| path.extension().is_some_and(|ending| ending == "case")).collect();
-    assert!(cases.len() >= 6);
+    assert!(cases.len() >= 7);
     for case in cases {
         hold_printed(&fs::read(&case).unwrap(), &fs::read_to_string(case.with_extension("out")).unwrap());
     }

@@ -1,7 +1,7 @@
-//! Document 01, "A lateral face".
+//! Document 01, "A lateral face", with W-206 of document 02.
 
 use crate::one_block::Levels;
-use crate::units_and_ranges::{cut, floor, Grid, Site, TICKS_IN_A_METRE};
+use crate::units_and_ranges::{floor, nearest, Grid, Site, TICKS_IN_A_METRE};
 use crate::Record;
 
 /// "K for salt is floor(K(δ+1)/δ)." In mm/day.
@@ -33,9 +33,10 @@ pub(crate) fn tip_thickness(thickness: i64, length: i64, beyond: Option<(i64, i6
     }
 }
 
-/// "Flow = cut(C·(difference of that fluid's heads)/4,096) litres/day." The difference in ticks.
+/// "Flow = cut(C·(difference of that fluid's heads)/4,096) litres/day." W-206: "Lateral, leakage and boundary flows shall be rounded to the
+/// nearest litre, halves away from zero, so opposite differences still give opposite flows." The difference in ticks.
 pub(crate) fn flow(conductance: i64, difference: i64) -> i64 {
-    cut(conductance * difference, TICKS_IN_A_METRE)
+    nearest(conductance * difference, TICKS_IN_A_METRE)
 }
 
 /// "Neighbours in a row or column of one layer, both active".

@@ -1,4 +1,4 @@
-//! Document 01, "Leakage, river and sea", with W-201 of document 02.
+//! Document 01, "Leakage, river and sea", with W-201 and W-206 of document 02.
 
 use crate::lateral_face::flow;
 use crate::one_block::Levels;
@@ -65,8 +65,8 @@ pub(crate) struct Leakage {
 }
 
 /// "Leakage joins a block and the one directly above, both active."; "Like fluids use their own heads. Unlike fluids use the fresh head
-/// and the fresh equivalent of the salt one at the lower block's top."; "flow = cut(C·difference/4,096)."; "None leaves a block with both
-/// thicknesses 0." `above` is the index of the upper block.
+/// and the fresh equivalent of the salt one at the lower block's top."; "flow = cut(C·difference/4,096).", with W-206 rounded; "None leaves a
+/// block with both thicknesses 0." `above` is the index of the upper block.
 pub(crate) fn leakage(grid: &Grid, levels: &[Levels], site: Site, above: usize) -> Leakage {
     let (lower, upper) = (&grid.blocks[site.index], &grid.blocks[above]);
     let lower_fluid = fluid_at_top(&levels[site.index]);

@@ -122,10 +122,27 @@ mod tests {
     }
 
     #[test]
-    fn rows_f_and_g() {
+    fn row_f() {
         assert_eq!(conductance(15_000, 40_960, 100, [100, 100]), 150_000);
-        assert_eq!(flow(150_000, 1), 36);
-        assert_eq!(flow(150_000, -1), -36);
+    }
+
+    /// W-206: "In document 01's row g the answers become 37 and -37".
+    #[test]
+    fn row_g_with_w_206() {
+        assert_eq!(flow(150_000, 1), 37);
+        assert_eq!(flow(150_000, -1), -37);
+    }
+
+    /// W-206: "rounded to the nearest litre, halves away from zero, so opposite differences still give opposite flows."
+    #[test]
+    fn halves_of_a_litre() {
+        let litres = |parts: i64| [1, -1].map(|difference| flow(parts, difference));
+        assert_eq!(litres(0), [0, 0]);
+        assert_eq!(litres(2_047), [0, 0]);
+        assert_eq!(litres(2_048), [1, -1]);
+        assert_eq!(litres(6_143), [1, -1]);
+        assert_eq!(litres(6_144), [2, -2]);
+        assert_eq!(litres(8_192), [2, -2]);
     }
 
     #[test]

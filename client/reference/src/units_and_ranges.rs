@@ -88,6 +88,16 @@ pub(crate) fn cut(dividend: i64, divisor: i64) -> i64 {
     dividend / divisor
 }
 
+/// W-206 of document 02: "rounded to the nearest litre, halves away from zero".
+pub(crate) fn nearest(dividend: i64, divisor: i64) -> i64 {
+    let size = (2 * dividend.abs() + divisor) / (2 * divisor);
+    if dividend < 0 {
+        -size
+    } else {
+        size
+    }
+}
+
 /// Whether a number is in its range.
 pub(crate) fn within(number: i64, (lower, upper): Ends) -> bool {
     (lower..=upper).contains(&number)

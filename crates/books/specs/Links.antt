@@ -50,7 +50,7 @@ tipBehindOf c fluid d i low high =
     (cond (ltZ (pos 0) high) nobody (behindAt c fluid d (behindOf (c .grid) d i true)))
     (cond (ltZ (pos 0) high) (behindAt c fluid d (behindOf (c .grid) d i false)) nobody)
 
--- a lateral face: "Flow = cut(C·(difference of that fluid's heads)/4,096) litres/day."
+-- a lateral face: "Flow = cut(C·(difference of that fluid's heads)/4,096) litres/day", with W-206 rounded
 unfoldable pub lateralAt : Case → ℕ → ℕ → ℕ → ℤ
 lateralAt c fluid d i =
     let a = sideOf (c .grid) (c .slots) fluid i in
@@ -61,8 +61,8 @@ lateralAt c fluid d i =
 abbrev pub leakageSideAt : Grid → List ℤ → ℕ → LeakageSide
 leakageSideAt g slots i = record { heads = newHeads (blockOf slots i); thickness = watersOf g slots i }
 
--- "Leakage joins a block and the one directly above": "C = floor(leakance·area/1,000), flow = cut(C·difference/4,096)", "at the lower
--- block's top"
+-- "Leakage joins a block and the one directly above": "C = floor(leakance·area/1,000), flow = cut(C·difference/4,096)", with W-206
+-- rounded, "at the lower block's top"
 unfoldable pub leakageAt : Case → ℕ → ℤ
 leakageAt c i =
     leakageOf (c .grid) (overAreaOf (blockIn c i .leakance) (areaOf c i)) (leakageSideAt (c .grid) (c .slots) i)

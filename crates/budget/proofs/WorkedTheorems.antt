@@ -54,7 +54,7 @@ unfolding firstOf inRange placeOf slotsAt orElse firstRefusal hasNext nextOf aqu
 printed-tables = (refl, refl)
 
 -- A grid of two columns, two rows and three layers, of which 1 1 0 1, 0 0 1 0 and 0 1 1 1 are marked, layer by layer. The lines were worked out by
--- another program, written from document 01.
+-- another program, written from documents 01 and 02.
 abbrev twelveBlocks : Case
 twelveBlocks =
     caseOf (recordOf 2 2 3 (pos 1) 1 (pos 1) (pos 1000000000)) (pos 100 ∷ pos 100 ∷ []) (pos 100 ∷ pos 100 ∷ [])
@@ -76,7 +76,7 @@ abbrev sevenMarks : List ℤ
 sevenMarks = pos 1 ∷ pos 1 ∷ pos 0 ∷ pos 1 ∷ pos 0 ∷ pos 0 ∷ pos 1 ∷ pos 0 ∷ pos 0 ∷ pos 1 ∷ pos 1 ∷ pos 1 ∷ []
 
 pub seven-of-twelve : zoneAnswer twelveBlocks sevenMarks ≡ given (
-    pos 1590585 ∷ pos 437293318 ∷ pos 5279 ∷ pos 10825962 ∷ pos 999892 ∷ pos 50000 ∷ pos 0 ∷ negℤ (pos 432589338) ∷ pos 14983970
-    ∷ negℤ (pos 1590303) ∷ pos 86616726 ∷ pos 6825939 ∷ negℤ (pos 10825962) ∷ negℤ (pos 41) ∷ pos 0 ∷ negℤ (pos 624) ∷ pos 299004 ∷ pos 70853467 ∷ [])
+    pos 1590585 ∷ pos 437293321 ∷ pos 5281 ∷ pos 10825963 ∷ pos 999892 ∷ pos 50000 ∷ pos 0 ∷ negℤ (pos 432589338) ∷ pos 14983972
+    ∷ negℤ (pos 1590303) ∷ pos 86616729 ∷ pos 6825940 ∷ negℤ (pos 10825963) ∷ negℤ (pos 41) ∷ pos 0 ∷ negℤ (pos 624) ∷ pos 299004 ∷ pos 70853468 ∷ [])
 unfolding firstOf inRange placeOf slotsAt orElse firstRefusal hasNext nextOf aquiferTopOf saltKOf overAreaOf faceKOf conductanceOf areaAt liveOf overlaps greatestOf eitherExceeds faceExceeds aboveExceeds boundaryExceeds blockExceeds atFault firstAtFault limitsOf every allWithin topOf rangeOf endsHold screenWithin screensHold layerHolds openHolds boundaryHolds rulesHold allZero slotsHold countsHold termsHold roomHolds widthsHold faultOf shapeOf contentsOf sum back clampOf hasPrevious previousOf neighbourOf behindOf interfaceOf freshEquivalentOf seaHeadOf hasWaterTable saturatedTopOf heldOf levelsOf thicknessesOf volumeOf storageOf lengthWithin lengthsOf freshShareOf sharesOf belowTop rechargeOf boundaryHeadOf exchangeOf exchangedAs gainOf boundaryOf tipOf faceThicknessOf faceConductanceOf lateralOf uppermostOf lowermostOf differenceOf leakageOf litresOf leavingOf levelsAt watersOf booksOf broughtOf sideOf tipBehindOf lateralAt leakageAt namedOf pumpedAt storageAt ownOf fixedOf throughOf flowsOf balanceIn inZone edgeOf edgesOf changes convertedAt ownIn settledOf linesBy rowOf eighteenOf markedOf isDry dryAt dryOf lentOf zoneAnswer
 seven-of-twelve = refl

@@ -1,5 +1,6 @@
 -- Laws of flows. They hold nothing to believe.
 pub mod LitresLaws
+pub mod LitresTheorems
 pub mod LateralLaws
 pub mod LeakageLaws
 pub mod BoundaryLaws

@@ -6,10 +6,10 @@ use native.Mathlib.Omega.{arith}
 use lib.IntN.{_*ℤ_, negℤ, pos, ℤ}
 use lib.Signed.{ltZ}
 use Rattle.whole.specs.Inner.{Abs, In}
-use Rattle.whole.specs.Whole.{cutOf}
-use Rattle.whole.proofs.DivisionLaws.{cut-neg}
+use Rattle.whole.specs.Whole.{roundedOf}
 use Rattle.whole.proofs.LinearLaws.{#, linear, signed}
 use Rattle.whole.proofs.RangeLaws.{ranges, within}
+use Rattle.whole.proofs.RoundedLaws.{rounded-in, rounded-neg}
 use Rattle.whole.proofs.SumLaws.{only-abs}
 use Rattle.block.specs.Inner.{mostArea}
 use Rattle.block.specs.Units.{ticks}
@@ -18,14 +18,14 @@ use Rattle.flow.specs.Inner.{mostDifference, mostFlow, mostOverArea, mos
 
 pub litres-neg : (c d : ℤ) → litresOf c (negℤ d) ≡ negℤ (litresOf c d)
 unfolding litresOf
-litres-neg c d = ap (λ z. cutOf z (pos ticks)) (turned c d) ∙ cut-neg (c *ℤ d) (pos ticks)
+litres-neg c d = ap (λ z. roundedOf z (pos ticks)) (turned c d) ∙ rounded-neg (c *ℤ d) ticks (omega arith)
   where
     turned : (c d : ℤ) → c *ℤ negℤ d ≡ negℤ (c *ℤ d)
     turned c d = linear (search (signed, # c, # d) depth 30) (omega arith)
 
 pub litres-in : (c d : ℤ) → In (pos 0) (pos mostConductance) c → Abs mostDifference d → Abs mostFlow (litresOf c d)
 unfolding litresOf
-litres-in c d h k = within (search ranges depth 20) tt tt
+litres-in c d h k = rounded-in (c *ℤ d) ticks (omega arith) (within (search ranges depth 20) tt tt)
 
 pub leaving-in : (low high flow : ℤ) {m : ℕ} → Abs m flow → Abs m (leavingOf low high flow)
 unfolding leavingOf

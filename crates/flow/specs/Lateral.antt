@@ -34,6 +34,6 @@ faceThicknessOf f B1 B2 p =
 unfoldable pub faceConductanceOf : Face → Side → Side → Behind → ℤ
 faceConductanceOf f a b p = conductanceOf f (faceKOf f (a .k) (b .k)) (faceThicknessOf f (a .thickness) (b .thickness) p)
 
--- "Flow = cut(C·(difference of that fluid's heads)/4,096) litres/day." "No flow leaves the block without the fluid."
+-- "Flow = cut(C·(difference of that fluid's heads)/4,096) litres/day", with W-206 rounded. "No flow leaves the block without the fluid."
 unfoldable pub lateralOf : Face → Side → Side → Behind → ℤ
 lateralOf f a b p = leavingOf (a .thickness) (b .thickness) (litresOf (faceConductanceOf f a b p) (a .head -ℤ b .head))

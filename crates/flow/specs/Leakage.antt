@@ -32,7 +32,7 @@ differenceOf g lower upper low high level =
     (inFluid lower low -ℤ inFluid upper high)
     (freshHeadOf g lower low level -ℤ freshHeadOf g upper high level)
 
--- "flow = cut(C·difference/4,096)", from the lower to the upper block. "None leaves a block with both thicknesses 0."
+-- "flow = cut(C·difference/4,096)", with W-206 rounded, from the lower to the upper block. "None leaves a block with both thicknesses 0."
 unfoldable pub leakageOf : Grid → ℤ → LeakageSide → LeakageSide → ℤ → ℤ
 leakageOf g conductance lower upper level =
     leavingOf (togetherOf (lower .thickness)) (togetherOf (upper .thickness))

@@ -5,16 +5,17 @@ use Prim.Native.Nat.{ℕ}
 use lib.IntN.{_*ℤ_, pos, ℤ}
 use lib.Signed.{ltZ}
 use Rattle.whole.specs.Sum.{only}
-use Rattle.whole.specs.Whole.{cutOf, floorOf}
+use Rattle.whole.specs.Whole.{floorOf, roundedOf}
 use Rattle.block.specs.Units.{ticks}
 
 -- 10: "a conductance of either fluid exceeds 268,435,456"
 abbrev pub mostConductance : ℕ
 mostConductance = 268435456
 
--- "Flow = cut(C·(difference of that fluid's heads)/4,096) litres/day."
+-- Document 01: "Flow = cut(C·(difference of that fluid's heads)/4,096) litres/day." W-206 of document 02: "Lateral, leakage and boundary flows shall be
+-- rounded to the nearest litre, halves away from zero, so opposite differences still give opposite flows."
 unfoldable pub litresOf : ℤ → ℤ → ℤ
-litresOf conductance difference = cutOf (conductance *ℤ difference) (pos ticks)
+litresOf conductance difference = roundedOf (conductance *ℤ difference) (pos ticks)
 
 -- A flow is positive from the low to the high side: it leaves the low side where it is above 0, and else the high one. It counts where what flows has some
 -- thickness there. At a face that is the fluid's: "No flow leaves the block without the fluid." In leakage it is both fluids' together: "None leaves a block

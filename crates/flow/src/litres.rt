@@ -7,17 +7,17 @@ ghost use Rattle.block.specs.Inner.{mostArea};
 ghost use Rattle.flow.specs.Litres.{litresOf, leavingOf, overAreaOf, mostConductance};
 ghost use Rattle.flow.specs.Inner.{mostDifference, mostRate};
 use block::units::TICKS;
-use whole::cut_div;
 use whole::floor_div;
+use whole::round_div;
 
-// "Flow = cut(C·(difference of that fluid's heads)/4,096) litres/day", the conductance in litres a day for each metre of head
-// difference, the difference in ticks. Inner: both are in range.
+// "Flow = cut(C·(difference of that fluid's heads)/4,096) litres/day", with W-206 "rounded to the nearest litre, halves away from zero";
+// the conductance in litres a day for each metre of head difference, the difference in ticks. Inner: both are in range.
 pub fn litres(conductance: i64, difference: i64) -> i64
     requires { ⌜ In (pos 0) (pos mostConductance) conductance ⌝ }
     requires { ⌜ Abs mostDifference difference ⌝ }
     ensures { λ r. ⌜ r ≡ litresOf conductance difference ⌝ }
 {
-    cut_div(conductance * difference, TICKS)
+    round_div(conductance * difference, TICKS)
 }
 
 // A flow from the low to the high side, or nothing where the block that it would leave holds none: `low` and `high` are the thicknesses

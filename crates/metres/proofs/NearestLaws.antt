@@ -7,27 +7,20 @@ use lib.Ieee.{down, fin, up}
 use lib.Ieee.Fits.{down-pos}
 use lib.Ieee.Nearest.{closest}
 use lib.IntN.{_*ℤ_, _-ℤ_, natAbs, negsuc, negℤ, pos, ℤ}
-use Rattle.whole.proofs.ClosestLaws.{IsHalf, as-near, closest-half, no-nearer}
-use Rattle.whole.proofs.LinearLaws.{linear, signed}
+use Rattle.whole.proofs.ClosestLaws.{IsHalf, as-near, away-neg, closest-half, no-nearer}
+use Rattle.whole.proofs.Parts.{size-neg}
 use Rattle.block.specs.Units.{ticks}
 use Rattle.metres.specs.Meaning.{distanceOf}
 use Rattle.metres.specs.Metres.{signedBy, tickOf, ticksIn}
 
 -- ---- distances in ℤ
-size-neg : (z : ℤ) → natAbs (negℤ z) ≡ natAbs z
-size-neg (pos zero) = refl
-size-neg (pos (suc n)) = refl
-size-neg (negsuc n) = refl
-
 size-signed : (s : Bool) (n : ℕ) → natAbs (signedBy s n) ≡ n
 size-signed true n = size-neg (pos n)
 size-signed false n = refl
 
 -- a distance is the same on both sides of zero
 both-sides : (s : Bool) (q a b : ℕ) → natAbs (signedBy s q *ℤ pos b -ℤ signedBy s a) ≡ natAbs (pos (q * b) -ℤ pos a)
-both-sides true q a b =
-    let turned : negℤ (pos q) *ℤ pos b -ℤ negℤ (pos a) ≡ negℤ (pos (q * b) -ℤ pos a) = linear (search signed depth 30) (omega arith) in
-    ap natAbs turned ∙ size-neg (pos (q * b) -ℤ pos a)
+both-sides true q a b = away-neg b (pos a) (pos q)
 both-sides false q a b = refl
 
 -- ---- the tick

@@ -15,7 +15,7 @@ use Rattle.flow.specs.Litres.{litresOf}
 use Rattle.report.specs.Reports.{reportOf}
 use Rattle.report.specs.WorkedByHand.{headed, printed, gridWith, waterOf, workedOut}
 
--- "Prove rows a to l below as a single table about the definitions": they give what document 01 prints. The edit `floor_in_row_g` tries it.
+-- "Prove rows a to l below as a single table about the definitions": they give what document 01 prints, and in row g what W-206 says. The edit `cut_in_row_g` tries it.
 pub rows-a-to-l : workedOut ≡ printed
 unfolding waterOf interfaceOf aquiferTopOf hasWaterTable saturatedTopOf heldOf levelsOf thicknessesOf clampOf volumeOf storageOf sharesOf freshShareOf freshEquivalentOf faceKOf conductanceOf litresOf tipOf takenOf isTaken tickOf ticksIn inRange
 rows-a-to-l = refl

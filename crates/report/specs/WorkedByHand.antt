@@ -82,7 +82,7 @@ workedOut =
     ∷ (faceKOf (widthsOf (pos 100) (pos 300)) (pos 10000) (pos 30000) ∷ [])
     -- f. "Kf 15,000, B 40,960, W 100, widths 100: C 150,000."
     ∷ (conductanceOf (widthsOf (pos 100) (pos 100)) (pos 15000) (pos 40960) ∷ [])
-    -- g. "C 150,000, difference 1: 36; -1: -36."
+    -- g. "C 150,000, difference 1: 36; -1: -36." W-206 of document 02: "In document 01's row g the answers become 37 and -37"
     ∷ (litresOf (pos 150000) (pos 1) ∷ litresOf (pos 150000) (negℤ (pos 1)) ∷ [])
     -- h. "Ba 4,096, Bp 8,192, equal widths: face 2,048; Bp 12,288: 0."
     ∷ (tipOf (pos 100) (pos 4096) (behindWith (pos 8192)) ∷ tipOf (pos 100) (pos 4096) (behindWith (pos 12288)) ∷ [])
@@ -96,7 +96,7 @@ workedOut =
     ∷ (tickTaken (fin false 1 (negℤ (pos 13))) ++ tickTaken (fin false 3 (negℤ (pos 13))))
     ∷ []
 
--- the numbers that document 01 prints, in the same order
+-- the numbers that document 01 prints, in the same order, and in row g those of W-206
 abbrev pub printed : List (List ℤ)
 printed =
     (negℤ (pos 163840) ∷ pos 204800 ∷ pos 40960 ∷ [])  -- a. ζ, Bf, Bs
@@ -105,7 +105,7 @@ printed =
     ∷ (pos 15000 ∷ [])  -- d. Kf
     ∷ (pos 20000 ∷ [])  -- e. Kf
     ∷ (pos 150000 ∷ [])  -- f. C
-    ∷ (pos 36 ∷ negℤ (pos 36) ∷ [])  -- g. litres a day
+    ∷ (pos 37 ∷ negℤ (pos 37) ∷ [])  -- g. litres a day
     ∷ (pos 2048 ∷ pos 0 ∷ [])  -- h. face thicknesses
     ∷ (pos 2000000 ∷ pos 66666 ∷ [])  -- i. litres, litres a day
     ∷ (pos 750000 ∷ pos 250001 ∷ [])  -- j. fresh, salt

@@ -2,7 +2,7 @@
 -- Assumes nothing.
 use mathlib.Core.Bool.{not}
 use mathlib.Core.Logic.{_⊎_, inl, inr, ⊎-elim}
-use mathlib.Core.Path.{_≡_, ap, refl, sym}
+use mathlib.Core.Path.{_∙_, _≡_, ap, refl, sym}
 use Prim.Native.Nat.{Ordering, Ordering·eq, Ordering·gt, Ordering·lt, _%_, _*_, _+_, _/_, _<_, _≤_, compare, suc, zero, ℕ}
 use native.Mathlib.Nat.{div-add-mod', le-of-eq, le-refl, mod-lt, mul-le-mul-right}
 use native.Mathlib.Omega.{arith}
@@ -10,10 +10,11 @@ use lib.Arith.{lt-of-le-ne}
 use lib.Dec.{T, eqb→eq, isEq, isLe, leb→le, nleb→lt}
 use lib.Ieee.{nearest}
 use lib.Ieee.Nearest.{closest}
-use lib.IntN.{_*ℤ_, _-ℤ_, natAbs, negsuc, pos, ℤ, ℤ-discrete}
+use lib.IntN.{_*ℤ_, _-ℤ_, natAbs, negsuc, negℤ, pos, ℤ, ℤ-discrete}
 use lib.Signed.{_<ℤ_}
+use Rattle.whole.proofs.LinearLaws.{#, linear, signed}
 use Rattle.whole.proofs.OrderLaws.{≤ℤ-or-<}
-use Rattle.whole.proofs.Parts.{*#, -#, Is, eq-in, le-abs, le-out, lt-in, lt-out, minus, plus}
+use Rattle.whole.proofs.Parts.{*#, -#, Is, eq-in, le-abs, le-out, lt-in, lt-out, minus, plus, size-neg}
 use Rattle.whole.proofs.SumLaws.{eq→eqb}
 
 -- which way two numbers compare
@@ -97,7 +98,7 @@ closest-half a b B =
 
 -- how far k lies from x / b, in parts of which 1 has b
 module _ (b : ℕ) (x : ℤ) where
-  abbrev away : ℤ → ℕ
+  abbrev pub away : ℤ → ℕ
   away k = natAbs (k *ℤ pos b -ℤ x)
 
   in-parts : (k : ℤ) → (plus k * b + minus x ≤ minus k * b + plus x + away k) × (minus k * b + plus x ≤ plus k * b + minus x + away k)
@@ -124,3 +125,10 @@ module _ (b : ℕ) (x : ℤ) where
   -- and where another is as near, it is half away
   pub as-near : (t k : ℤ) → (k ≡ t → ⊥) → away t * 2 ≤ b → away t ≡ away k → away t * 2 ≡ b
   as-near t k d h e = omega (arith, h, e, apart t k d)
+
+-- a distance is the same on both sides of zero
+pub away-neg : (b : ℕ) (x k : ℤ) → away b (negℤ x) (negℤ k) ≡ away b x k
+away-neg b x k = ap natAbs (turned b x k) ∙ size-neg (k *ℤ pos b -ℤ x)
+  where
+    turned : (b : ℕ) (x k : ℤ) → negℤ k *ℤ pos b -ℤ negℤ x ≡ negℤ (k *ℤ pos b -ℤ x)
+    turned b x k = linear (search (signed, # x, # k) depth 40) (omega arith)

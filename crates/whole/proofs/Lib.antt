@@ -10,4 +10,5 @@ pub mod SearchLaws
 pub mod WithinLaws
 pub mod LentLaws
 pub mod ClosestLaws
+pub mod RoundedLaws
 pub mod OutcomeTheorems

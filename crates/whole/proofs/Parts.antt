@@ -144,3 +144,8 @@ abs-le (negsuc n) k h g = omega arith
 pub le-abs : (z : ℤ) (k : ℕ) → natAbs z ≤ k → (plus z ≤ minus z + k) × (minus z ≤ plus z + k)
 le-abs (pos n) k h = (omega arith, omega arith)
 le-abs (negsuc n) k h = (omega arith, omega arith)
+
+pub size-neg : (z : ℤ) → natAbs (negℤ z) ≡ natAbs z
+size-neg (pos zero) = refl
+size-neg (pos (suc n)) = refl
+size-neg (negsuc n) = refl

@@ -11,3 +11,7 @@ pub record In (lo hi z : ℤ) : Type 0 where
 -- at most m from 0
 abbrev pub Abs : ℕ → ℤ → Type 0
 Abs m z = In (negℤ (pos m)) (pos m) z
+
+-- how large a number that is rounded, and its divisor, may be without sign, so that half the divisor can be added to the number: 2⁶²
+abbrev pub mostRounded : ℕ
+mostRounded = 4611686018427387904

@@ -1,4 +1,4 @@
-// Whole numbers: floor, cut, the lesser, the greater, a number that is held between two (document 01, "Units and ranges").
+// Whole numbers: floor, cut, a rounded quotient, the lesser, the greater, a number that is held between two (document 01, "Units and ranges").
 pub mod lent;
 pub mod nearest;
 pub mod ranges;
@@ -6,7 +6,8 @@ pub mod ranges;
 ghost use mathlib.Core.Path.{_≡_};
 ghost use lib.IntN.{pos};
 ghost use lib.Signed.{_≤ℤ_};
-ghost use Rattle.whole.specs.Whole.{floorOf, cutOf, isZero, minℤ, maxℤ, clampOf};
+ghost use Rattle.whole.specs.Inner.{In, Abs, mostRounded};
+ghost use Rattle.whole.specs.Whole.{floorOf, cutOf, roundedOf, isZero, minℤ, maxℤ, clampOf};
 
 // "Floor means toward minus infinity": a / d. Inner: the divisor is 1 or more.
 pub fn floor_div(a: i64, d: i64) -> i64
@@ -27,6 +28,21 @@ pub fn cut_div(a: i64, d: i64) -> i64
     ensures { λ r. ⌜ r ≡ cutOf a d ⌝ }
 {
     a / d
+}
+
+// "rounded to the nearest litre, halves away from zero" (document 02, W-206): a / d. Inner: the divisor is 1 or more, and neither is
+// above 2⁶² without sign.
+pub fn round_div(a: i64, d: i64) -> i64
+    requires { ⌜ Abs mostRounded a ⌝ }
+    requires { ⌜ In (pos 1) (pos mostRounded) d ⌝ }
+    ensures { λ r. ⌜ r ≡ roundedOf a d ⌝ }
+{
+    let half = d / 2;
+    if a < 0 {
+        (a - half) / d
+    } else {
+        (a + half) / d
+    }
 }
 
 // Whether a number is 0.

@@ -10,7 +10,7 @@ use crate::slices::SLOTS;
 /// A block with this base and thickness in this layer, counted from 0, and at this distance, in blocks, from the first corner of the layer.
 pub fn active_block(dice: &mut Dice, style: &Style, [base, thickness]: [i64; 2], layer: usize, distance: usize) -> [i64; SLOTS] {
     let (top, is_top) = (base + thickness, layer + 1 == style.layers);
-    let new = new_heads(dice, style, base, top, distance);
+    let new = new_heads(dice, style, base, top, distance).map(|head| on_unit(head, style));
     let boundary = boundary(dice, style, is_top.then_some(top), new);
     let old = old_heads(dice, style, boundary[0], new);
     let mut slots = [0; SLOTS];
@@ -32,6 +32,11 @@ pub fn active_block(dice: &mut Dice, style: &Style, [base, thickness]: [i64; 2],
     slots
 }
 
+/// The multiple of the case's unit at or below a level. The ends of the range are multiples.
+fn on_unit(level: i64, style: &Style) -> i64 {
+    level - level.rem_euclid(style.unit)
+}
+
 /// New fresh and salt head.
 fn new_heads(dice: &mut Dice, style: &Style, base: i64, top: i64, distance: usize) -> [i64; 2] {
     match style.heads {
@@ -47,6 +52,11 @@ fn new_heads(dice: &mut Dice, style: &Style, base: i64, top: i64, distance: usiz
             heads_with(dice, style.delta, interface, fresh)
         }
         Heads::Ends => [end(dice), end(dice)],
+        Heads::Gentle { fresh } => {
+            let interface = if dice.one_in(4) { near(dice, base, top) } else { base - dice.from(0, 5_000) };
+            let fresh = fresh + dice.from(-3, 3) * style.unit;
+            heads_with(dice, style.delta, interface, fresh)
+        }
     }
 }
 
@@ -110,8 +120,8 @@ fn boundary(dice: &mut Dice, style: &Style, top: Option<i64>, heads: [i64; 2]) -
         return [0; 3];
     }
     match (dice.from(if top.is_some() { kind::RIVER } else { kind::FIXED_FRESH }, kind::BOTH_FIXED), top) {
-        (kind::RIVER, _) => [kind::RIVER, stage(dice, heads[0]), boundary_leakance(dice, style)],
-        (kind::SEA, Some(top)) => [kind::SEA, sea_floor(dice, style.delta, heads, top), boundary_leakance(dice, style)],
+        (kind::RIVER, _) => [kind::RIVER, on_unit(stage(dice, heads[0]), style), boundary_leakance(dice, style)],
+        (kind::SEA, Some(top)) => [kind::SEA, sea_floor(dice, style, heads, top), boundary_leakance(dice, style)],
         (fixed, _) => [fixed, 0, 0],
     }
 }
@@ -132,16 +142,17 @@ fn stage(dice: &mut Dice, head: i64) -> i64 {
 
 /// A floor, often one at which the sea's head, the depth over δ, is about the block's own: the fresh head, or the salt one in fresh water at
 /// the block's top. Then the sea brings or takes little or nothing.
-fn sea_floor(dice: &mut Dice, delta: i64, [fresh, salt]: [i64; 2], top: i64) -> i64 {
+fn sea_floor(dice: &mut Dice, style: &Style, [fresh, salt]: [i64; 2], top: i64) -> i64 {
     match dice.below(9) {
         0 => 0,
         1 => -LEVEL,
         2 => -dice.from(0, 200),
         3..=5 => -dice.from(0, 400_000),
         _ => {
+            let delta = style.delta;
             let own = dice.pick(&[fresh, ((delta + 1) * salt - top).div_euclid(delta)]);
             let apart = dice.pick(&[3, 300]);
-            (-delta * (own + dice.from(-apart, apart))).clamp(-LEVEL, 0)
+            (-delta * on_unit(own + dice.from(-apart, apart), style)).clamp(-LEVEL, 0)
         }
     }
 }

@@ -4,12 +4,21 @@
 use super::block::active_block;
 use super::ranges::{OF_RECORD, TOLERANCE};
 use super::shapes::Shape;
-use super::style::{style_of, Style};
+use super::style::{gentle_style_of, style_of, Style};
 use crate::dice::Dice;
 use crate::slices::{place, Slices, SLOTS};
 
 /// A case of this shape.
-pub fn grid(dice: &mut Dice, [columns, rows, layers]: Shape) -> Slices {
+pub fn grid(dice: &mut Dice, shape: Shape) -> Slices {
+    grid_of(dice, shape, style_of)
+}
+
+/// A case of this shape in which many flows are half a litre beyond a whole number.
+pub fn gentle_grid(dice: &mut Dice, shape: Shape) -> Slices {
+    grid_of(dice, shape, gentle_style_of)
+}
+
+fn grid_of(dice: &mut Dice, [columns, rows, layers]: Shape, style_of: fn(&mut Dice, &Slices) -> Style) -> Slices {
     let mut case = Slices::empty(columns, rows, layers);
     (case.columns, case.rows) = (widths(dice, columns), widths(dice, rows));
     let style = style_of(dice, &case);

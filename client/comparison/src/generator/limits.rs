@@ -4,7 +4,7 @@
 use caydubeesh::{raw, slot};
 
 use super::asked::active;
-use super::grid::grid;
+use super::grid::{gentle_grid, grid};
 use super::ranges::{LEVEL, OF_RECORD, OF_SLOT, OF_WIDTH, TOLERANCE};
 use super::shapes::{self, Shape};
 use crate::dice::Dice;
@@ -18,6 +18,12 @@ pub fn tolerance_met(dice: &mut Dice) -> Slices {
     raw::verdict(&case.record, &case.columns, &case.rows, &case.slots, &mut verdict, &mut block);
     case.record[place::TOLERANCE] = (verdict[3] - dice.from(0, 1)).clamp(0, TOLERANCE);
     case
+}
+
+/// Flows of half a litre beyond a whole number.
+pub fn halves_met(dice: &mut Dice) -> Slices {
+    let shape = shapes::middle(dice);
+    gentle_grid(dice, shape)
 }
 
 /// A case with the greatest value in one slot of one block that the check passes, or with one more. A slot that must be 0 there stays so,

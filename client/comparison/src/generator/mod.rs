@@ -35,6 +35,7 @@ pub const KINDS: &[Kind] = &[
     kind("middle grid", 15, |dice| of_shape(dice, shapes::middle)),
     kind("large grid", 3, |dice| of_shape(dice, shapes::large)),
     kind("tolerance met", 90, |dice| of_case(dice, limits::tolerance_met)),
+    kind("halves met", 60, |dice| of_case(dice, limits::halves_met)),
     kind("slot met", 30, |dice| of_case(dice, limits::slot_met)),
     kind("conductance met", 40, |dice| of_case(dice, conductances::conductance_met)),
     kind("tops met", 35, |dice| of_case(dice, limits::tops_met)),

@@ -4,12 +4,17 @@ use super::ranges::{CONDUCTANCE, K, LEAKANCE, LEVEL};
 use crate::dice::Dice;
 use crate::slices::{place, Slices};
 
+/// In ticks.
+const HALF_A_METRE: i64 = 2_048;
+
 /// What the blocks of one case have in common.
 pub struct Style {
     pub layers: usize,
     pub delta: i64,
     pub flag: i64,
     pub heads: Heads,
+    /// New heads, and those of rivers and of many seas, are multiples of so many ticks.
+    pub unit: i64,
     /// The lowest base, the greatest thickness, and about the highest top.
     pub bottom: i64,
     pub thickness: i64,
@@ -40,6 +45,8 @@ pub enum Heads {
     Rough,
     /// At or near the ends of the range.
     Ends,
+    /// Almost level fresh heads, mostly over an interface at or below the base.
+    Gentle { fresh: i64 },
 }
 
 /// The style of a case whose counts and widths are set.
@@ -56,6 +63,7 @@ pub fn style_of(dice: &mut Dice, case: &Slices) -> Style {
         delta,
         flag: dice.from(0, 1),
         heads: heads_of_case(dice, bottom, top, thickness),
+        unit: 1,
         bottom,
         thickness,
         top,
@@ -69,6 +77,24 @@ pub fn style_of(dice: &mut Dice, case: &Slices) -> Style {
         may_be_dry: dice.one_in(4),
         may_move: dice.one_in(8),
         is_steady: dice.one_in(2),
+    }
+}
+
+/// A style of fresh water that flows from block to block, with heads that differ by half metres: an odd number of them carries a half litre
+/// wherever the conductance is odd.
+pub fn gentle_style_of(dice: &mut Dice, case: &Slices) -> Style {
+    let style = style_of(dice, case);
+    let layer_k = (0..style.layers).map(|_| dice.from(1, style.most_k)).collect();
+    let (fresh, flag) = (near(dice, style.bottom, style.top), i64::from(dice.one_in(4)));
+    Style {
+        flag,
+        heads: Heads::Gentle { fresh },
+        unit: HALF_A_METRE,
+        layer_k: Some(layer_k),
+        inactive: 20,
+        boundaries: 1,
+        may_be_dry: false,
+        ..style
     }
 }
 
