@@ -31,7 +31,7 @@ static void print_lines(const char *fluid, const int64_t *lines)
 
 int main(int count, char **arguments)
 {
-    static uint8_t file[32768]; /* a well-formed file has at most 27,805 bytes; a longer one is refused */
+    static uint8_t file[32768]; /* a well-formed file has at most 27,809 bytes; a longer one is refused */
     static int64_t columns[CAYDUBEESH_WIDTHS], rows[CAYDUBEESH_WIDTHS], slots[CAYDUBEESH_MOST_SLOTS], whole[CAYDUBEESH_MOST_BLOCKS];
     int64_t record[CAYDUBEESH_RECORD], verdict[CAYDUBEESH_VERDICT] = {CAYDUBEESH_CODE_NOT_JUDGED}, table[CAYDUBEESH_TABLE];
     size_t block;

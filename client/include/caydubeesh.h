@@ -28,13 +28,13 @@
 #include <stdint.h>
 
 /* The version of this header; caydubeesh_version() gives that of the library that is linked. */
-#define CAYDUBEESH_VERSION "0.5.0"
+#define CAYDUBEESH_VERSION "0.6.0"
 #define CAYDUBEESH_VERSION_MAJOR 0
-#define CAYDUBEESH_VERSION_MINOR 5
+#define CAYDUBEESH_VERSION_MINOR 6
 #define CAYDUBEESH_VERSION_PATCH 0
 
 /* How many numbers a record, a verdict, a table, a report and the slots of one block have. */
-#define CAYDUBEESH_RECORD 7
+#define CAYDUBEESH_RECORD 9
 #define CAYDUBEESH_VERDICT 4
 #define CAYDUBEESH_TABLE 18
 #define CAYDUBEESH_REPORT 5
@@ -48,15 +48,18 @@
 /* Ticks to a metre. */
 #define CAYDUBEESH_TICKS 4096
 
-/* The places in a record. */
+/* The places in a record. Either δ is whole and both weights are 0, or δ is 0 and both weights are given. */
 enum caydubeesh_record {
-    CAYDUBEESH_RECORD_COLUMNS = 0,  /* 1 to 64 */
-    CAYDUBEESH_RECORD_ROWS = 1,     /* 1 to 64 */
-    CAYDUBEESH_RECORD_LAYERS = 2,   /* 1 to 8, and at most 512 blocks in all */
-    CAYDUBEESH_RECORD_DELTA = 3,    /* δ, 1 to 100: the weight of fresh water over the difference of both weights, 40 for sea water */
-    CAYDUBEESH_RECORD_FLAG = 4,     /* water-table flag, 0 or 1 */
-    CAYDUBEESH_RECORD_STEP = 5,     /* time step, days, 1 to 36,525 */
-    CAYDUBEESH_RECORD_TOLERANCE = 6 /* tolerance, litres a day, 0 to 1,000,000,000 */
+    CAYDUBEESH_RECORD_COLUMNS = 0,      /* 1 to 64 */
+    CAYDUBEESH_RECORD_ROWS = 1,         /* 1 to 64 */
+    CAYDUBEESH_RECORD_LAYERS = 2,       /* 1 to 8, and at most 512 blocks in all */
+    CAYDUBEESH_RECORD_DELTA = 3,        /* δ, 1 to 100: the weight of fresh water over the difference of both weights, 40 for sea water;
+                                           or 0, and the two weights */
+    CAYDUBEESH_RECORD_FRESH_WEIGHT = 4, /* grams a litre, 990 to 1,010; 0 where δ is whole */
+    CAYDUBEESH_RECORD_SALT_WEIGHT = 5,  /* grams a litre, 1,011 to 1,050, at least 5 above that of fresh water; 0 where δ is whole */
+    CAYDUBEESH_RECORD_FLAG = 6,         /* water-table flag, 0 or 1 */
+    CAYDUBEESH_RECORD_STEP = 7,         /* time step, days, 1 to 36,525 */
+    CAYDUBEESH_RECORD_TOLERANCE = 8     /* tolerance, litres a day, 0 to 1,000,000,000 */
 };
 
 /* The slots of a block. An inactive block has sixteen zeros. */
@@ -128,7 +131,8 @@ enum caydubeesh_line {
 enum caydubeesh_report_place {
     CAYDUBEESH_REPORT_FRESH_HEAD = 0,
     CAYDUBEESH_REPORT_SALT_HEAD = 1,
-    CAYDUBEESH_REPORT_INTERFACE = 2, /* (1 + δ) salt head - δ fresh head, which may lie outside the aquifer */
+    CAYDUBEESH_REPORT_INTERFACE = 2, /* (1 + δ) salt head - δ fresh head; of weights the tick at or below (salt weight · salt head -
+                                        fresh weight · fresh head) / (salt weight - fresh weight). It may lie outside the aquifer */
     CAYDUBEESH_REPORT_FRESH_THICKNESS = 3,
     CAYDUBEESH_REPORT_SALT_THICKNESS = 4
 };
@@ -139,7 +143,7 @@ enum caydubeesh_refusal {
     CAYDUBEESH_REFUSED_END = 1,          /* the file ends where a byte is still needed */
     CAYDUBEESH_REFUSED_FORM = 2,         /* a number is longer than its shortest form, or a fifth byte has its high bit set */
     CAYDUBEESH_REFUSED_COUNT = 3,        /* a count or the block total is out of range */
-    CAYDUBEESH_REFUSED_TERM = 4,         /* δ, flag, step or tolerance is out of range */
+    CAYDUBEESH_REFUSED_TERM = 4,         /* δ, a weight or the pair of weights, flag, step or tolerance is out of range */
     CAYDUBEESH_REFUSED_WIDTH = 5,        /* a width is out of range */
     CAYDUBEESH_REFUSED_SLOT = 6,         /* a slot is out of range */
     CAYDUBEESH_REFUSED_ROOM = 7,         /* a lent slice is too short */

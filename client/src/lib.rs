@@ -26,7 +26,7 @@
 //!
 //! ```
 //! // Two blocks of fresh water. The heads of the first are fixed; a well takes 150 litres a day from the second.
-//! let record = caydubeesh::Record { columns: 2, rows: 1, layers: 1, delta: 40, flag: 0, step: 30, tolerance: 5 };
+//! let record = caydubeesh::Record { columns: 2, rows: 1, layers: 1, delta: 40, fresh_weight: 0, salt_weight: 0, flag: 0, step: 30, tolerance: 5 };
 //! let slots = [
 //!     10_000, -204_800, 245_760, 200, 0, 0, 0, 0, 0, 5, 0, 0, 8_192, 0, 8_192, 0,
 //!     10_000, -204_800, 245_760, 200, 0, 0, 150, -4_096, 4_096, 0, 0, 0, 8_191, 0, 8_191, 0,
@@ -52,6 +52,9 @@ use std::fmt;
 pub use case::{Case, Place};
 pub use names::{code, kind, refused, slot};
 
+/// Numbers of a record.
+pub const RECORD: usize = 9;
+
 /// Slots of a block.
 pub const SLOTS: usize = 16;
 
@@ -61,7 +64,7 @@ pub const WIDTHS: usize = 64;
 /// The most blocks.
 pub const BLOCKS: usize = 512;
 
-/// The first seven numbers of a case.
+/// The first numbers of a case. Either δ is whole and both weights are 0, or δ is 0 and both weights are given.
 #[derive(Clone, Copy, Debug, PartialEq, Eq)]
 pub struct Record {
     /// Columns, 1 to 64.
@@ -70,8 +73,12 @@ pub struct Record {
     pub rows: i64,
     /// Layers, 1 to 8, and at most 512 blocks in all.
     pub layers: i64,
-    /// δ, the weight of fresh water over the difference of both weights, 1 to 100.
+    /// δ, the weight of fresh water over the difference of both weights, 1 to 100; 0 where the two weights are given.
     pub delta: i64,
+    /// The weight of fresh water in grams a litre, 990 to 1,010; 0 where δ is whole.
+    pub fresh_weight: i64,
+    /// The weight of salt water in grams a litre, 1,011 to 1,050 and at least 5 above that of fresh water; 0 where δ is whole.
+    pub salt_weight: i64,
     /// The water-table flag, 0 or 1.
     pub flag: i64,
     /// The time step in days, 1 to 36,525.
@@ -81,8 +88,9 @@ pub struct Record {
 }
 
 impl Record {
-    fn numbers(&self) -> [i64; 7] {
-        [self.columns, self.rows, self.layers, self.delta, self.flag, self.step, self.tolerance]
+    fn numbers(&self) -> [i64; RECORD] {
+        let Record { columns, rows, layers, delta, fresh_weight, salt_weight, flag, step, tolerance } = *self;
+        [columns, rows, layers, delta, fresh_weight, salt_weight, flag, step, tolerance]
     }
 }
 
@@ -201,7 +209,8 @@ pub struct Report {
     pub fresh_head: f64,
     /// Salt head.
     pub salt_head: f64,
-    /// Interface, ζ = (1 + δ) salt head - δ fresh head; it may lie outside the aquifer.
+    /// Interface: (1 + δ) salt head - δ fresh head, of weights the tick at or below (salt weight · salt head - fresh weight · fresh head) / (salt weight -
+    /// fresh weight). It may lie outside the aquifer.
     pub interface: f64,
     /// Thickness of the fresh water.
     pub fresh_thickness: f64,
@@ -252,10 +261,10 @@ pub fn report(record: &Record, columns: &[i64], rows: &[i64], slots: &[i64], num
 /// Reads a case file over the front of widths and slots, and gives its record. Refused with one of 1 to 10; room beyond what is needed is not touched.
 /// [`Case::read`] lends room enough for any file.
 pub fn read(file: &[u8], columns: &mut [i64], rows: &mut [i64], slots: &mut [i64]) -> Result<Record, Refusal> {
-    let (mut numbers, mut block) = ([0; 7], 0);
+    let (mut numbers, mut block) = ([0; RECORD], 0);
     let number = raw::read(file, &mut numbers, columns, rows, slots, &mut block);
-    let [columns, rows, layers, delta, flag, step, tolerance] = numbers;
-    answer(number, block, Record { columns, rows, layers, delta, flag, step, tolerance })
+    let [columns, rows, layers, delta, fresh_weight, salt_weight, flag, step, tolerance] = numbers;
+    answer(number, block, Record { columns, rows, layers, delta, fresh_weight, salt_weight, flag, step, tolerance })
 }
 
 /// The tick nearest to a level in metres, halves to the even one. Refused with 12 for what is no number, infinite, or outside ±4,194,304 ticks.

@@ -76,7 +76,7 @@ pub mod refused {
     pub const FORM: u64 = 2;
     /// A count or the block total is out of range.
     pub const COUNT: u64 = 3;
-    /// δ, flag, step or tolerance is out of range.
+    /// δ, a weight or the pair of weights, flag, step or tolerance is out of range.
     pub const TERM: u64 = 4;
     /// A width is out of range.
     pub const WIDTH: u64 = 5;

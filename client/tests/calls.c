@@ -51,7 +51,7 @@ static uint64_t read_file(size_t file_length, size_t slots_length)
 
 static void try_read(void)
 {
-    static const int64_t read[CAYDUBEESH_RECORD] = {2, 1, 1, 40, 0, 30, 5};
+    static const int64_t read[CAYDUBEESH_RECORD] = {2, 1, 1, 40, 0, 0, 0, 30, 5};
     assert(read_file(sizeof file - 1, CAYDUBEESH_MOST_SLOTS) == 1 && block == 0);
     assert(is_fill(record, 0, CAYDUBEESH_RECORD) && is_fill(columns, 0, CAYDUBEESH_WIDTHS));
     assert(is_fill(rows, 0, CAYDUBEESH_WIDTHS) && is_fill(slots, 0, CAYDUBEESH_MOST_SLOTS));
@@ -70,11 +70,11 @@ static uint64_t check(size_t record_length, size_t slots_length)
 
 static void try_check(void)
 {
-    assert(check(7, 32) == 0 && block == 0);
-    assert(check(6, 32) == 7 && block == 0);
-    assert(check(7, 31) == 7 && block == 0);
+    assert(check(CAYDUBEESH_RECORD, 32) == 0 && block == 0);
+    assert(check(CAYDUBEESH_RECORD - 1, 32) == 7 && block == 0);
+    assert(check(CAYDUBEESH_RECORD, 31) == 7 && block == 0);
     slots[16] = -1;
-    assert(check(7, 32) == 6 && block == 2);
+    assert(check(CAYDUBEESH_RECORD, 32) == 6 && block == 2);
     slots[16] = 10000;
 }
 
@@ -82,17 +82,17 @@ static void try_verdict(void)
 {
     int64_t verdict[CAYDUBEESH_VERDICT + 1];
     fill(verdict, CAYDUBEESH_VERDICT + 1);
-    assert(caydubeesh_verdict(record, 7, columns, 2, rows, 1, slots, 32, verdict, 3, &block) == 7 && block == 0);
+    assert(caydubeesh_verdict(record, CAYDUBEESH_RECORD, columns, 2, rows, 1, slots, 32, verdict, 3, &block) == 7 && block == 0);
     assert(is_fill(verdict, 0, CAYDUBEESH_VERDICT + 1));
     record[0] = 0;
-    assert(caydubeesh_verdict(record, 7, columns, 2, rows, 1, slots, 32, verdict, 3, &block) == 3 && block == 0);
-    assert(caydubeesh_verdict(record, 6, columns, 2, rows, 1, slots, 32, verdict, 3, &block) == 7 && block == 0);
+    assert(caydubeesh_verdict(record, CAYDUBEESH_RECORD, columns, 2, rows, 1, slots, 32, verdict, 3, &block) == 3 && block == 0);
+    assert(caydubeesh_verdict(record, CAYDUBEESH_RECORD - 1, columns, 2, rows, 1, slots, 32, verdict, 3, &block) == 7 && block == 0);
     record[0] = 2;
     record[3] = 0;
-    assert(caydubeesh_verdict(record, 7, columns, 2, rows, 1, slots, 32, verdict, 3, &block) == 7 && block == 0);
+    assert(caydubeesh_verdict(record, CAYDUBEESH_RECORD, columns, 2, rows, 1, slots, 32, verdict, 3, &block) == 7 && block == 0);
     record[3] = 40;
     assert(is_fill(verdict, 0, CAYDUBEESH_VERDICT + 1));
-    assert(caydubeesh_verdict(record, 7, columns, 2, rows, 1, slots, 32, verdict, CAYDUBEESH_VERDICT + 1, &block) == 0 && block == 0);
+    assert(caydubeesh_verdict(record, CAYDUBEESH_RECORD, columns, 2, rows, 1, slots, 32, verdict, CAYDUBEESH_VERDICT + 1, &block) == 0 && block == 0);
     assert(verdict[0] == 0 && verdict[1] == 0 && verdict[2] == 0 && verdict[3] == 4 && verdict[4] == FILL);
 }
 
@@ -101,17 +101,17 @@ static void try_zone_table(void)
     static const int64_t fresh[9] = {0, 0, 0, 0, -150, 0, 0, 146, -4}, salt[9] = {0};
     int64_t lines[CAYDUBEESH_TABLE + 1], marks[2] = {1, 2};
     fill(lines, CAYDUBEESH_TABLE + 1);
-    assert(caydubeesh_zone_table(record, 7, columns, 2, rows, 1, slots, 32, marks, 2, lines, CAYDUBEESH_TABLE + 1, &block) == 11);
+    assert(caydubeesh_zone_table(record, CAYDUBEESH_RECORD, columns, 2, rows, 1, slots, 32, marks, 2, lines, CAYDUBEESH_TABLE + 1, &block) == 11);
     assert(block == 0 && is_fill(lines, 0, CAYDUBEESH_TABLE + 1));
-    assert(caydubeesh_zone_table(record, 7, columns, 2, rows, 1, slots, 32, marks, 1, lines, CAYDUBEESH_TABLE + 1, &block) == 7);
+    assert(caydubeesh_zone_table(record, CAYDUBEESH_RECORD, columns, 2, rows, 1, slots, 32, marks, 1, lines, CAYDUBEESH_TABLE + 1, &block) == 7);
     assert(block == 0 && is_fill(lines, 0, CAYDUBEESH_TABLE + 1));
     record[0] = 0;
-    assert(caydubeesh_zone_table(record, 7, columns, 2, rows, 1, slots, 32, marks, 1, lines, CAYDUBEESH_TABLE - 1, &block) == 3);
+    assert(caydubeesh_zone_table(record, CAYDUBEESH_RECORD, columns, 2, rows, 1, slots, 32, marks, 1, lines, CAYDUBEESH_TABLE - 1, &block) == 3);
     record[0] = 2;
-    assert(caydubeesh_zone_table(record, 7, columns, 2, rows, 1, slots, 32, marks, 2, lines, CAYDUBEESH_TABLE - 1, &block) == 7);
+    assert(caydubeesh_zone_table(record, CAYDUBEESH_RECORD, columns, 2, rows, 1, slots, 32, marks, 2, lines, CAYDUBEESH_TABLE - 1, &block) == 7);
     assert(block == 0 && is_fill(lines, 0, CAYDUBEESH_TABLE + 1));
     marks[1] = 1;
-    assert(caydubeesh_zone_table(record, 7, columns, 2, rows, 1, slots, 32, marks, 2, lines, CAYDUBEESH_TABLE + 1, &block) == 0);
+    assert(caydubeesh_zone_table(record, CAYDUBEESH_RECORD, columns, 2, rows, 1, slots, 32, marks, 2, lines, CAYDUBEESH_TABLE + 1, &block) == 0);
     assert(block == 0 && memcmp(lines, fresh, sizeof fresh) == 0 && memcmp(lines + 9, salt, sizeof salt) == 0);
     assert(lines[CAYDUBEESH_TABLE] == FILL);
 }
@@ -119,15 +119,31 @@ static void try_zone_table(void)
 static void try_report(void)
 {
     double metres[CAYDUBEESH_REPORT + 1] = {0.5, 0.5, 0.5, 0.5, 0.5, 0.5};
-    assert(caydubeesh_report(record, 7, columns, 2, rows, 1, slots, 32, SIZE_MAX, metres, CAYDUBEESH_REPORT + 1, &block) == 14);
+    assert(caydubeesh_report(record, CAYDUBEESH_RECORD, columns, 2, rows, 1, slots, 32, SIZE_MAX, metres, CAYDUBEESH_REPORT + 1, &block) == 14);
     assert(block == SIZE_MAX && metres[0] == 0.5 && metres[4] == 0.5);
     record[0] = 0;
-    assert(caydubeesh_report(record, 7, columns, 2, rows, 1, slots, 32, 1, metres, CAYDUBEESH_REPORT - 1, &block) == 3 && block == 0);
+    assert(caydubeesh_report(record, CAYDUBEESH_RECORD, columns, 2, rows, 1, slots, 32, 1, metres, CAYDUBEESH_REPORT - 1, &block) == 3 && block == 0);
     record[0] = 2;
-    assert(caydubeesh_report(record, 7, columns, 2, rows, 1, slots, 32, 0, metres, CAYDUBEESH_REPORT - 1, &block) == 7 && block == 0);
+    assert(caydubeesh_report(record, CAYDUBEESH_RECORD, columns, 2, rows, 1, slots, 32, 0, metres, CAYDUBEESH_REPORT - 1, &block) == 7 && block == 0);
     assert(metres[0] == 0.5 && metres[4] == 0.5);
-    assert(caydubeesh_report(record, 7, columns, 2, rows, 1, slots, 32, 1, metres, CAYDUBEESH_REPORT + 1, &block) == 0 && block == 0);
+    assert(caydubeesh_report(record, CAYDUBEESH_RECORD, columns, 2, rows, 1, slots, 32, 1, metres, CAYDUBEESH_REPORT + 1, &block) == 0 && block == 0);
     assert(metres[0] == 2.0 && metres[1] == 0.0 && metres[2] == -80.0 && metres[3] == 60.0 && metres[4] == 0.0 && metres[5] == 0.5);
+}
+
+static void try_weights(void)
+{
+    double metres[CAYDUBEESH_REPORT] = {0.5, 0.5, 0.5, 0.5, 0.5};
+    record[CAYDUBEESH_RECORD_FRESH_WEIGHT] = 1000;
+    record[CAYDUBEESH_RECORD_SALT_WEIGHT] = 1023;
+    assert(caydubeesh_check(record, CAYDUBEESH_RECORD, columns, 2, rows, 1, slots, 32, &block) == CAYDUBEESH_REFUSED_TERM && block == 0);
+    record[CAYDUBEESH_RECORD_DELTA] = 0;
+    assert(caydubeesh_report(record, CAYDUBEESH_RECORD, columns, 2, rows, 1, slots, 32, 1, metres, CAYDUBEESH_REPORT, &block) == 0 && block == 0);
+    /* floor(-1,000 · 8,192 / 23) ticks */
+    assert(metres[0] == 2.0 && metres[1] == 0.0 && metres[2] == -356174.0 / 4096.0 && metres[3] == 60.0 && metres[4] == 0.0);
+    record[CAYDUBEESH_RECORD_SALT_WEIGHT] = 1004;
+    assert(caydubeesh_check(record, CAYDUBEESH_RECORD, columns, 2, rows, 1, slots, 32, &block) == CAYDUBEESH_REFUSED_TERM && block == 0);
+    record[CAYDUBEESH_RECORD_DELTA] = 40;
+    record[CAYDUBEESH_RECORD_FRESH_WEIGHT] = record[CAYDUBEESH_RECORD_SALT_WEIGHT] = 0;
 }
 
 static void try_metres(void)
@@ -157,6 +173,7 @@ int main(void)
     try_verdict();
     try_zone_table();
     try_report();
+    try_weights();
     try_metres();
     try_words();
     return 0;

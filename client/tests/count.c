@@ -38,7 +38,7 @@ static void fill(int64_t *slots, int64_t column, int64_t layer, int64_t layers, 
 int main(int argc, char **argv)
 {
     static int64_t columns[CAYDUBEESH_WIDTHS], rows[CAYDUBEESH_WIDTHS], slots[CAYDUBEESH_MOST_SLOTS];
-    int64_t record[CAYDUBEESH_RECORD] = {0, 0, 0, 40, 1, 30, 1000000};
+    int64_t record[CAYDUBEESH_RECORD] = {0, 0, 0, 40, 0, 0, 1, 30, 1000000};
     int64_t verdict[CAYDUBEESH_VERDICT] = {0};
     uint64_t refusal = 0;
     size_t block = 0;

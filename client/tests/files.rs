@@ -2,10 +2,10 @@
 
 mod common;
 
-use caydubeesh::{raw, Case, Refusal};
+use caydubeesh::{raw, Case, Refusal, RECORD};
 use common::{refused, Wrapped};
 use comparison::dice::Dice;
-use comparison::slices::{file_of, Slices};
+use comparison::slices::{file_of, place, Slices};
 use comparison::{FILL, NO_BLOCK};
 
 const PRINTED: &[u8] = include_bytes!("../../examples/printed.case");
@@ -14,7 +14,7 @@ const OAHU: &[u8] = include_bytes!("../../examples/oahu_b_steady.case");
 /// Reads a file and holds it to what is promised of any file: a refusal is one of 1 to 10 and changes nothing; what was read passes the check, and is
 /// what the file has, in its shortest form; room beyond it is not touched.
 fn read(file: &[u8]) -> Result<Slices, Refusal> {
-    let lengths = [9, 64, 64, 8_192];
+    let lengths = [RECORD + 2, 64, 64, 8_192];
     let mut lent = lengths.map(|length| vec![FILL; length]);
     let mut block = NO_BLOCK;
     let [record, columns, rows, slots] = &mut lent;
@@ -26,7 +26,7 @@ fn read(file: &[u8]) -> Result<Slices, Refusal> {
         return Err(Refusal { number, block });
     }
     let [mut record, mut columns, mut rows, mut slots] = lent;
-    let need = [7, record[0] as usize, record[1] as usize, 16 * (record[0] * record[1] * record[2]) as usize];
+    let need = [RECORD, record[0] as usize, record[1] as usize, 16 * (record[0] * record[1] * record[2]) as usize];
     for (slice, need) in [&mut record, &mut columns, &mut rows, &mut slots].into_iter().zip(need) {
         assert!(slice[need..].iter().all(|&number| number == FILL));
         slice.truncate(need);
@@ -152,8 +152,29 @@ fn counts_and_their_total_are_3() {
 }
 
 #[test]
+fn weights_are_read_number_by_number_and_judged_before_the_flag() {
+    let after_counts = |numbers: &[u64]| said(&file_of(&[&[2, 1, 1], numbers].concat()));
+    // A δ of 0 asks for two weights more, and a whole one for none.
+    assert_eq!([&[0][..], &[0, 1_000], &[0, 1_000, 1_023]].map(after_counts), [(); 3].map(|()| refused(1, 0)));
+    // Each weight is judged at its own number, and the pair right after them, before the flag: here it is missing or no flag.
+    for numbers in [&[0, 989][..], &[0, 1_011], &[0, 1_000, 1_010], &[0, 1_000, 1_051], &[0, 1_007, 1_011], &[0, 1_010, 1_014]] {
+        assert_eq!(after_counts(numbers), refused(4, 0), "{numbers:?}");
+    }
+    assert_eq!(after_counts(&[0, 1_010, 1_015]), refused(1, 0));
+    let record = |salt: u64| file_of(&[2, 1, 1, 0, 1_010, salt]);
+    assert_eq!(said(&[&record(1_014)[..], &[0x80, 0x00]].concat()), refused(4, 0));
+    assert_eq!(said(&[&record(1_015)[..], &[0x80, 0x00]].concat()), refused(2, 0));
+    // 2 for a weight that is too long comes before its range.
+    assert_eq!(said(&[2, 1, 1, 0, 0x80, 0x00]), refused(2, 0));
+    let lagoon = Slices::printed().with_density([0, 1_000, 1_023]);
+    assert_eq!(read(&lagoon.file()), Ok(lagoon.clone()));
+    assert_eq!(lagoon.file().len(), PRINTED.len() + 4);
+}
+
+#[test]
 fn terms_are_4_and_widths_5() {
-    for (place, beyond) in [(3, 0), (3, 101), (4, 2), (5, 0), (5, 36_526), (6, 1_000_000_001)] {
+    use place::{DELTA, FLAG, STEP, TOLERANCE};
+    for (place, beyond) in [(DELTA, 0), (DELTA, 101), (FLAG, 2), (STEP, 0), (STEP, 36_526), (TOLERANCE, 1_000_000_001)] {
         let case = Slices::printed().with_record(place, beyond);
         assert_eq!(said(&case.file()), refused(4, 0));
     }

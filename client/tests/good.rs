@@ -2,9 +2,9 @@
 
 mod common;
 
-use caydubeesh::{Case, Lines, Record, Refusal, Report, Table, Verdict, SLOTS};
+use caydubeesh::{Case, Lines, Record, Refusal, Report, Table, Verdict, RECORD, SLOTS};
 use common::{refused, Wrapped};
-use comparison::slices::Slices;
+use comparison::slices::{place, Slices};
 
 const PRINTED: &[u8] = include_bytes!("../../examples/printed.case");
 
@@ -12,7 +12,10 @@ const PRINTED: &[u8] = include_bytes!("../../examples/printed.case");
 fn printed_case_is_read() {
     let printed = Slices::printed();
     let case = Case::read(PRINTED).unwrap();
-    assert_eq!(case.record, Record { columns: 2, rows: 1, layers: 1, delta: 40, flag: 0, step: 30, tolerance: 5 });
+    assert_eq!(
+        case.record,
+        Record { columns: 2, rows: 1, layers: 1, delta: 40, fresh_weight: 0, salt_weight: 0, flag: 0, step: 30, tolerance: 5 }
+    );
     assert_eq!((case.columns, case.rows, case.slots), (printed.columns.clone(), printed.rows.clone(), printed.slots.clone()));
     assert_eq!(printed.file(), PRINTED);
 }
@@ -60,14 +63,14 @@ fn printed_reports() {
 fn rows_a_to_c_as_reports() {
     let case = Slices::printed();
     assert_eq!(case.with(1, 14, 4_096).report(1), Ok([1.0, 0.0, -40.0, 50.0, 10.0]));
-    assert_eq!(case.with(1, 14, 4_096).with_record(4, 1).report(1), Ok([1.0, 0.0, -40.0, 41.0, 10.0]));
+    assert_eq!(case.with(1, 14, 4_096).with_record(place::FLAG, 1).report(1), Ok([1.0, 0.0, -40.0, 41.0, 10.0]));
     assert_eq!(case.with(1, 14, 8_192).report(1), Ok([2.0, 0.0, -80.0, 60.0, 0.0]));
 }
 
 #[test]
 fn tolerance_one_litre_less_is_code_23() {
-    assert_eq!(Slices::printed().with_record(6, 4).verdict(), Ok([0, 0, 0, 4]));
-    assert_eq!(Slices::printed().with_record(6, 3).verdict(), Ok([23, 2, 1, 4]));
+    assert_eq!(Slices::printed().with_record(place::TOLERANCE, 4).verdict(), Ok([0, 0, 0, 4]));
+    assert_eq!(Slices::printed().with_record(place::TOLERANCE, 3).verdict(), Ok([23, 2, 1, 4]));
 }
 
 #[test]
@@ -100,7 +103,7 @@ fn moved_head_is_code_21_and_has_a_table() {
 #[test]
 fn dry_well_is_code_22_and_refusal_13() {
     // Water table: the fresh head 8,191 lies below the screen.
-    let case = Slices::printed().with_record(4, 1).with(2, 7, 9_000).with(2, 8, 10_000);
+    let case = Slices::printed().with_record(place::FLAG, 1).with(2, 7, 9_000).with(2, 8, 10_000);
     assert_eq!(case.verdict(), Ok([22, 2, 1, 0]));
     assert_eq!(case.table(&[1, 1]), refused(13, 2));
     assert_eq!(case.table(&[1, 0]), refused(13, 2));
@@ -122,8 +125,9 @@ fn lines_of(file: &[u8]) -> String {
 
 #[test]
 fn examples_answer_what_stands_beside_them() {
-    let examples: [(&[u8], &str); 4] = [
+    let examples: [(&[u8], &str); 5] = [
         (PRINTED, include_str!("../../examples/printed.out")),
+        (include_bytes!("../../examples/lagoon.case"), include_str!("../../examples/lagoon.out")),
         (include_bytes!("../../examples/oahu_a_printed.case"), include_str!("../../examples/oahu_a_printed.out")),
         (include_bytes!("../../examples/oahu_b_steady.case"), include_str!("../../examples/oahu_b_steady.out")),
         (include_bytes!("../../examples/oahu_c_pumped.case"), include_str!("../../examples/oahu_c_pumped.out")),
@@ -135,11 +139,11 @@ fn examples_answer_what_stands_beside_them() {
 
 #[test]
 fn the_longest_file_is_read() {
-    // 512 blocks, every number as long as a well-formed case has it: 13 bytes, 72 widths of 2 and 512 blocks of 54.
+    // 512 blocks and two weights, every number as long as a well-formed case has it: 17 bytes, 72 widths of 2 and 512 blocks of 54.
     let mut case = Slices::empty(64, 8, 1);
     case.columns.fill(128);
     case.rows.fill(128);
-    case.record[3..].copy_from_slice(&[100, 1, 36_525, 1_000_000_000]);
+    case.record[place::DELTA..].copy_from_slice(&[0, 1_010, 1_015, 1, 36_525, 1_000_000_000]);
     for block in case.slots.chunks_mut(SLOTS) {
         let low = -4_194_304;
         block.copy_from_slice(&[
@@ -162,7 +166,7 @@ fn the_longest_file_is_read() {
         ]);
     }
     let file = case.file();
-    assert_eq!((case.check(), file.len()), (Ok(()), 27_805));
+    assert_eq!((case.check(), file.len()), (Ok(()), 27_809));
     let read = Case::read(&file).unwrap();
     assert_eq!(read.record, case.record());
     assert_eq!((read.columns, read.rows, read.slots), (case.columns, case.rows, case.slots));
@@ -187,9 +191,13 @@ fn refusals_say_document_01s_words() {
 #[test]
 fn header_has_the_wrappers_numbers() {
     let header = include_str!("../include/caydubeesh.h");
-    for (name, value) in
-        [("WIDTHS", caydubeesh::WIDTHS), ("MOST_BLOCKS", caydubeesh::BLOCKS), ("SLOTS", SLOTS), ("MOST_SLOTS", SLOTS * caydubeesh::BLOCKS)]
-    {
+    for (name, value) in [
+        ("RECORD", RECORD),
+        ("WIDTHS", caydubeesh::WIDTHS),
+        ("MOST_BLOCKS", caydubeesh::BLOCKS),
+        ("SLOTS", SLOTS),
+        ("MOST_SLOTS", SLOTS * caydubeesh::BLOCKS),
+    ] {
         assert!(header.contains(&format!("#define CAYDUBEESH_{name} {value}\n")), "{name} {value}");
     }
 }
@@ -198,7 +206,7 @@ fn header_has_the_wrappers_numbers() {
 fn a_small_stack_is_enough_and_threads_do_not_meet() {
     // `caydubeesh_read` uses the most: docs/CLIENT.md says how much.
     let run = || {
-        let (mut record, mut columns, mut rows, mut slots, mut block) = ([0; 7], [0; 64], [0; 64], vec![0; 8_192], 0);
+        let (mut record, mut columns, mut rows, mut slots, mut block) = ([0; RECORD], [0; 64], [0; 64], vec![0; 8_192], 0);
         for _ in 0..200 {
             let number = caydubeesh::raw::read(PRINTED, &mut record, &mut columns, &mut rows, &mut slots, &mut block);
             assert_eq!((number, block), (0, 0));

@@ -2,14 +2,14 @@
 
 mod common;
 
-use caydubeesh::{raw, Case};
+use caydubeesh::{raw, Case, RECORD};
 use common::Wrapped;
 use comparison::dice::Dice;
 use comparison::generator::faults::damage;
 use comparison::generator::files::damage_bytes;
 use comparison::generator::grid::grid;
 use comparison::generator::shapes;
-use comparison::slices::Slices;
+use comparison::slices::{place, Slices};
 use comparison::{FILL, NO_BLOCK};
 
 const ROUNDS: usize = 4_000;
@@ -70,7 +70,7 @@ fn hold_verdict(case: &Slices, blocks: usize, said: &Said) {
     assert_eq!((*refusal, *block), if numbers.len() < 4 && said.check.0 != 3 { (7, 0) } else { said.check });
     if *refusal == 0 {
         let [code, first, count, largest] = numbers[..4].try_into().unwrap();
-        let tolerance = case.record[6];
+        let tolerance = case.record[place::TOLERANCE];
         assert!([0, 21, 22, 23, 24].contains(&code));
         assert!((0..=blocks as i64).contains(&first) && (0..=1_024).contains(&count) && largest >= 0);
         assert_eq!((first == 0, count == 0), (code == 0, code == 0));
@@ -125,11 +125,12 @@ fn hold_report(case: &Slices, blocks: usize, number: usize, said: &Said) {
     assert_eq!((*refusal, *block), expected);
     if *refusal == 0 {
         let (thickness, heads) = (case.block(number)[2], &case.block(number)[14..]);
-        let zeta = (1 + case.record[3]) * heads[1] - case.record[3] * heads[0];
+        let [light, heavy] = case.weights();
+        let zeta = (heavy * heads[1] - light * heads[0]).div_euclid(heavy - light);
         assert_eq!(metres[..3], [heads[0], heads[1], zeta].map(|tick| tick as f64 / 4_096.0));
         let saturated = metres[3] + metres[4];
         assert!(metres[3] >= 0.0 && metres[4] >= 0.0 && saturated <= thickness as f64 / 4_096.0);
-        assert!(case.record[4] == 1 || saturated == thickness as f64 / 4_096.0);
+        assert!(case.record[place::FLAG] == 1 || saturated == thickness as f64 / 4_096.0);
     }
 }
 
@@ -166,7 +167,7 @@ fn only_wild_numbers() {
     let mut dice = Dice(5);
     for _ in 0..ROUNDS {
         let mut wild = |most: usize| -> Vec<i64> { (0..dice.below(most)).map(|_| dice.wild()).collect() };
-        let case = Slices { record: wild(9), columns: wild(4), rows: wild(4), slots: wild(70) };
+        let case = Slices { record: wild(RECORD + 2), columns: wild(4), rows: wild(4), slots: wild(70) };
         let (marks, number) = (wild(6), dice.roll() as usize);
         let said = ask(&mut dice, &case, &marks, number);
         hold(&case, &marks, number, &said);
@@ -214,6 +215,22 @@ fn tables_add() {
 }
 
 #[test]
+fn weights_in_the_ratio_of_a_whole_delta_give_its_answers() {
+    let mut dice = Dice(9);
+    let mut judged = 0;
+    for _ in 0..ROUNDS {
+        let case = any_grid(&mut dice);
+        let delta = dice.pick(&[20, 25, 40, 50]);
+        let (whole, weights) = (case.with_density([delta, 0, 0]), case.with_density([0, 1_000, 1_000 + 1_000 / delta]));
+        let marks: Vec<i64> = (0..case.blocks()).map(|_| dice.from(0, 1)).collect();
+        assert_eq!((whole.check(), whole.verdict()), (weights.check(), weights.verdict()));
+        assert_eq!((whole.table(&marks), whole.report(1)), (weights.table(&marks), weights.report(1)));
+        judged += usize::from(whole.verdict().is_ok());
+    }
+    assert!(judged > ROUNDS / 4);
+}
+
+#[test]
 fn files_written_are_read_back() {
     let mut dice = Dice(7);
     let mut read = 0;
@@ -239,7 +256,7 @@ fn damaged_files() {
             damage_bytes(&mut dice, &mut file);
         }
         let mut room = |need: usize| if dice.one_in(10) { dice.below(need) } else { need };
-        let lengths = [room(7), room(64), room(64), room(8_192)];
+        let lengths = [room(RECORD), room(64), room(64), room(8_192)];
         let mut lent = lengths.map(|length| vec![FILL; length]);
         let mut block = NO_BLOCK;
         let [record, columns, rows, slots] = &mut lent;

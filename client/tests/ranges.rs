@@ -2,13 +2,13 @@
 
 mod common;
 
-use caydubeesh::SLOTS;
+use caydubeesh::{RECORD, SLOTS};
 use common::{refused, Wrapped};
 use comparison::generator::ranges::{OF_RECORD, OF_SLOT};
-use comparison::slices::Slices;
+use comparison::slices::{place, Slices};
 
 /// What is given where a number of the record is out of range.
-const REFUSALS: [u64; 7] = [3, 3, 3, 4, 4, 4, 4];
+const REFUSALS: [u64; RECORD] = [3, 3, 3, 4, 4, 4, 4, 4, 4];
 
 /// Numbers beyond two ends: the next ones, the extreme ones, and some between. Of the last one the low 32 bits alone would be in range.
 fn beyond((low, high): (i64, i64)) -> [i64; 7] {
@@ -32,11 +32,47 @@ fn each_number_of_the_record() {
             all_refuse(&Slices::printed().with_record(place, value), REFUSALS[place], 0);
         }
     }
-    for (place, (low, high)) in OF_RECORD.into_iter().enumerate().skip(3) {
+    for place in [place::DELTA, place::FLAG, place::STEP, place::TOLERANCE] {
+        let (low, high) = OF_RECORD[place];
         for value in [low, high] {
             assert_eq!(Slices::printed().with_record(place, value).check(), Ok(()));
         }
     }
+}
+
+/// The printed case with another δ and weights.
+fn weighing(density: [i64; 3]) -> Slices {
+    Slices::printed().with_density(density)
+}
+
+#[test]
+fn each_pair_of_weights() {
+    for fresh in 985..=1_015 {
+        for salt in 1_005..=1_055 {
+            let is_in_range = (990..=1_010).contains(&fresh) && (1_011..=1_050).contains(&salt) && salt - fresh >= 5;
+            let expected = if is_in_range { Ok(()) } else { refused(4, 0) };
+            assert_eq!(weighing([0, fresh, salt]).check(), expected, "{fresh} {salt}");
+        }
+    }
+    for weights in [[0, 0], [1_000, 0], [0, 1_023], [1_023, 1_000], [i64::MIN, i64::MAX], [i64::MAX, i64::MIN], [-1_000, 1_023]] {
+        all_refuse(&weighing([0, weights[0], weights[1]]), 4, 0);
+    }
+}
+
+#[test]
+fn a_weight_beside_a_whole_delta_is_4() {
+    for delta in [1, 40, 100] {
+        assert_eq!(weighing([delta, 0, 0]).check(), Ok(()));
+        for weights in [[1_000, 1_023], [1_000, 0], [0, 1_023], [1, 0], [0, -1]] {
+            all_refuse(&weighing([delta, weights[0], weights[1]]), 4, 0);
+        }
+    }
+    // 7 comes before it, and 5 after it.
+    let mut case = weighing([40, 1_000, 1_023]);
+    case.columns[0] = 0;
+    all_refuse(&case, 4, 0);
+    case.rows.clear();
+    all_refuse(&case, 7, 0);
 }
 
 #[test]
@@ -45,14 +81,14 @@ fn negative_counts_and_flag_are_no_counts() {
         all_refuse(&Slices::printed().with_record(place, -1), 3, 0);
         all_refuse(&Slices::printed().with_record(place, -2), 3, 0);
     }
-    all_refuse(&Slices::printed().with_record(4, -1), 4, 0);
+    all_refuse(&Slices::printed().with_record(place::FLAG, -1), 4, 0);
 }
 
 #[test]
 fn counts_come_first_and_widths_after_terms() {
-    let case = Slices::printed().with_record(0, i64::MAX).with_record(3, i64::MIN).with(1, 0, -1);
+    let case = Slices::printed().with_record(place::COLUMNS, i64::MAX).with_record(place::DELTA, i64::MIN).with(1, 0, -1);
     all_refuse(&case, 3, 0);
-    let mut case = Slices::printed().with_record(6, -1).with(1, 0, -1);
+    let mut case = Slices::printed().with_record(place::TOLERANCE, -1).with(1, 0, -1);
     case.columns[0] = 0;
     all_refuse(&case, 4, 0);
     all_refuse(&Slices { record: Slices::printed().record, ..case }, 5, 0);
@@ -197,7 +233,7 @@ fn a_lateral_conductance_beyond_the_limit_is_10() {
     let mut case = Slices::empty(2, 1, 1);
     case.columns.fill(1);
     case.rows.fill(4);
-    case.record[3] = 1;
+    case.record[place::DELTA] = 1;
     let block = [32_768, -4_194_304, 4_194_304, 200, 0, 0, 0, 0, 0, 0, 0, 0, 0, 0, 0, 0];
     case.slots = [block, block].concat();
     assert_eq!(case.check(), Ok(()));
@@ -255,8 +291,13 @@ fn reports_of_no_active_block_are_14() {
 #[test]
 fn heads_at_their_ends_are_reported_exactly() {
     // ζ = 101 · 4,194,304 + 100 · 4,194,304 ticks, which is 205,824 m.
-    let case = Slices::printed().with_record(3, 100).with(1, 14, -4_194_304).with(1, 15, 4_194_304);
+    let case = Slices::printed().with_record(place::DELTA, 100).with(1, 14, -4_194_304).with(1, 15, 4_194_304);
     assert_eq!(case.report(1), Ok([-1_024.0, 1_024.0, 205_824.0, 0.0, 60.0]));
-    let case = Slices::printed().with_record(3, 100).with(1, 14, 4_194_304).with(1, 15, -4_194_304);
+    let case = Slices::printed().with_record(place::DELTA, 100).with(1, 14, 4_194_304).with(1, 15, -4_194_304);
     assert_eq!(case.report(1), Ok([1_024.0, -1_024.0, -205_824.0, 60.0, 0.0]));
+    // With weights 5 apart ζ = (1,015 + 1,010) · 4,194,304 / 5 ticks, which is 414,720 m.
+    let case = weighing([0, 1_010, 1_015]).with(1, 14, -4_194_304).with(1, 15, 4_194_304);
+    assert_eq!(case.report(1), Ok([-1_024.0, 1_024.0, 414_720.0, 0.0, 60.0]));
+    let case = weighing([0, 1_010, 1_015]).with(1, 14, 4_194_304).with(1, 15, -4_194_304);
+    assert_eq!(case.report(1), Ok([1_024.0, -1_024.0, -414_720.0, 60.0, 0.0]));
 }

@@ -1,7 +1,7 @@
 //! Slices that are too short, and slices with room to spare. Memory is filled before a call, and compared as a whole after it.
 
-use caydubeesh::raw;
-use comparison::slices::Slices;
+use caydubeesh::{raw, RECORD};
+use comparison::slices::{place, Slices};
 use comparison::{FILL, NO_BLOCK};
 
 const MARKS: [i64; 2] = [1, 1];
@@ -16,7 +16,7 @@ fn lent(lengths: [usize; 4]) -> Slices {
     case
 }
 
-const NEED: [usize; 4] = [7, 2, 1, 32];
+const NEED: [usize; 4] = [RECORD, 2, 1, 32];
 
 /// Every choice of lengths in which one of the four slices is too short.
 fn short_lengths() -> impl Iterator<Item = [usize; 4]> {
@@ -71,9 +71,9 @@ fn a_short_record_comes_before_all_else() {
 
 #[test]
 fn the_counts_come_before_short_widths_and_slots() {
-    for lengths in [[7, 0, 0, 0], [7, 2, 1, 31]] {
-        assert_eq!(refusals(&lent(lengths).with_record(0, 0)), [3; 4]);
-        assert_eq!(refusals(&lent(lengths).with_record(3, 0)), [7; 4]);
+    for lengths in [[RECORD, 0, 0, 0], [RECORD, 2, 1, 31]] {
+        assert_eq!(refusals(&lent(lengths).with_record(place::COLUMNS, 0)), [3; 4]);
+        assert_eq!(refusals(&lent(lengths).with_record(place::DELTA, 0)), [7; 4]);
     }
 }
 
@@ -82,14 +82,14 @@ fn cases_for_a_short_answer() -> [(Slices, u64); 9] {
     let case = Slices::printed();
     [
         (case.clone(), 7),
-        (case.with_record(0, 0), 3),
-        (case.with_record(2, 513), 3),
-        (case.with_record(3, 0), 7),
-        (case.with_record(6, -1), 7),
+        (case.with_record(place::COLUMNS, 0), 3),
+        (case.with_record(place::LAYERS, 513), 3),
+        (case.with_record(place::DELTA, 0), 7),
+        (case.with_record(place::TOLERANCE, -1), 7),
         (Slices { columns: vec![0; 2], ..case.clone() }, 7),
         (Slices { columns: vec![], ..case.clone() }, 7),
         (case.with(1, 0, -1), 7),
-        (Slices { record: vec![0; 6], ..case }, 7),
+        (Slices { record: vec![0; RECORD - 1], ..case }, 7),
     ]
 }
 
@@ -155,7 +155,7 @@ fn a_short_report_is_7_after_3() {
 
 #[test]
 fn room_to_spare_is_neither_read_nor_written() {
-    let Slices { record, columns, rows, slots } = lent([9, 5, 4, 50]);
+    let Slices { record, columns, rows, slots } = lent([RECORD + 2, 5, 4, 50]);
     let mut block = NO_BLOCK;
     assert_eq!((raw::check(&record, &columns, &rows, &slots, &mut block), block), (0, 0));
     let (mut verdict, mut block) = ([FILL; 6], NO_BLOCK);
@@ -190,19 +190,19 @@ fn a_file_read_into_a_short_slice_is_7() {
 fn a_short_record_comes_before_the_file_and_7_after_its_layers() {
     let file = Slices::printed().file();
     for end in 0..file.len() {
-        assert_eq!(read(&file[..end], [6, 2, 1, 32]).0, 7);
+        assert_eq!(read(&file[..end], [RECORD - 1, 2, 1, 32]).0, 7);
         let number = if end < 3 { 1 } else { 7 };
-        assert_eq!(read(&file[..end], [7, 1, 1, 32]).0, number);
-        assert_eq!(read(&file[..end], [7, 2, 0, 32]).0, number);
-        assert_eq!(read(&file[..end], [7, 2, 1, 31]).0, number);
+        assert_eq!(read(&file[..end], [RECORD, 1, 1, 32]).0, number);
+        assert_eq!(read(&file[..end], [RECORD, 2, 0, 32]).0, number);
+        assert_eq!(read(&file[..end], [RECORD, 2, 1, 31]).0, number);
     }
 }
 
 #[test]
 fn what_is_read_goes_over_the_front() {
     let case = Slices::printed();
-    let long = lent([9, 64, 64, 8_192]);
-    let (number, block, [record, columns, rows, slots]) = read(&case.file(), [9, 64, 64, 8_192]);
+    let long = lent([RECORD + 2, 64, 64, 8_192]);
+    let (number, block, [record, columns, rows, slots]) = read(&case.file(), [RECORD + 2, 64, 64, 8_192]);
     assert_eq!((number, block), (0, 0));
     assert_eq!(Slices { record, columns, rows, slots }, long);
 }

@@ -104,15 +104,17 @@ const SHORT: Refusal = Refusal { number: 7, block: 0 };
 
 /// The case as the reference takes it; refused where the record is too short to be one.
 fn case_of(case: &Slices) -> Result<reference::Case<'_>, Refusal> {
-    let Some(&[columns, rows, layers, delta, flag, step, tolerance]) = case.record.first_chunk::<RECORD>() else {
+    let Some(&[columns, rows, layers, delta, fresh_weight, salt_weight, flag, step, tolerance]) = case.record.first_chunk::<RECORD>()
+    else {
         return Err(SHORT);
     };
-    let record = reference::Record { columns, rows, layers, delta, flag, step, tolerance };
+    let record = reference::Record { columns, rows, layers, delta, fresh_weight, salt_weight, flag, step, tolerance };
     Ok(reference::Case { record, columns: &case.columns, rows: &case.rows, slots: &case.slots })
 }
 
 fn record_numbers(record: reference::Record) -> [i64; RECORD] {
-    [record.columns, record.rows, record.layers, record.delta, record.flag, record.step, record.tolerance]
+    let reference::Record { columns, rows, layers, delta, fresh_weight, salt_weight, flag, step, tolerance } = record;
+    [columns, rows, layers, delta, fresh_weight, salt_weight, flag, step, tolerance]
 }
 
 /// Writes an answer over the front of what is lent for it, and the block. A short slice is 7 after 3 and before all else.

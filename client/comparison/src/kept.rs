@@ -2,7 +2,7 @@
 //! there can be run too. What they do not have is taken as `Asked::of` has it, or as room for any case; keys that are not listed here are
 //! passed over.
 //!
-//! - A case: `header` (two zeros after δ), `cw`, `rw`, `slots`, `marks`, `block` (of the report), and `room`, the lengths lent for verdict,
+//! - A case: `header` (the record), `cw`, `rw`, `slots`, `marks`, `block` (of the report), and `room`, the lengths lent for verdict,
 //!   table and report.
 //! - A file: `file` in hexadecimal digits, `caps`, the lengths lent for column widths, row widths and slots, and `room`, the length lent for
 //!   the record.
@@ -11,9 +11,6 @@
 use crate::input::{Asked, File, Input, Level, ANSWERS, READ};
 use crate::json::{self, Value};
 use crate::slices::Slices;
-
-/// Numbers of a record up to δ. A header has two zeros after them, if anything follows.
-const UP_TO_DELTA: usize = 4;
 
 /// The line of an input.
 pub fn line(input: &Input) -> String {
@@ -28,12 +25,8 @@ pub fn line(input: &Input) -> String {
 
 fn case_line(asked: &Asked) -> String {
     let Asked { case, marks, number, room } = asked;
-    let mut header = case.record.clone();
-    if header.len() > UP_TO_DELTA {
-        header.splice(UP_TO_DELTA..UP_TO_DELTA, [0, 0]);
-    }
     json::line(&[
-        ("header", Value::list(&header)),
+        ("header", Value::list(&case.record)),
         ("cw", Value::list(&case.columns)),
         ("rw", Value::list(&case.rows)),
         ("slots", Value::list(&case.slots)),
@@ -102,14 +95,8 @@ impl Entries {
     }
 
     fn case(&self) -> Result<Asked, String> {
-        let mut record = self.needed("header")?;
-        if record.len() > UP_TO_DELTA {
-            if record.get(UP_TO_DELTA..UP_TO_DELTA + 2) != Some(&[0, 0]) {
-                return Err("\"header\" has no two zeros after δ".into());
-            }
-            record.drain(UP_TO_DELTA..UP_TO_DELTA + 2);
-        }
-        let case = Slices { record, columns: self.needed("cw")?, rows: self.needed("rw")?, slots: self.needed("slots")? };
+        let case =
+            Slices { record: self.needed("header")?, columns: self.needed("cw")?, rows: self.needed("rw")?, slots: self.needed("slots")? };
         let usual = Asked::of(case);
         Ok(Asked {
             marks: self.numbers("marks")?.unwrap_or(usual.marks),

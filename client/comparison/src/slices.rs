@@ -2,10 +2,7 @@
 
 use caydubeesh::{kind, slot};
 
-pub use caydubeesh::SLOTS;
-
-/// Numbers of a record.
-pub const RECORD: usize = 7;
+pub use caydubeesh::{RECORD, SLOTS};
 
 /// The places of a record's numbers.
 pub mod place {
@@ -13,9 +10,19 @@ pub mod place {
     pub const ROWS: usize = 1;
     pub const LAYERS: usize = 2;
     pub const DELTA: usize = 3;
-    pub const FLAG: usize = 4;
-    pub const STEP: usize = 5;
-    pub const TOLERANCE: usize = 6;
+    pub const FRESH_WEIGHT: usize = 4;
+    pub const SALT_WEIGHT: usize = 5;
+    pub const FLAG: usize = 6;
+    pub const STEP: usize = 7;
+    pub const TOLERANCE: usize = 8;
+}
+
+/// The weights of fresh and of salt water, of δ and what a record has after it; of a whole δ the pair δ and δ + 1.
+pub fn weights_of(density: [i64; 3]) -> [i64; 2] {
+    match density {
+        [0, fresh, salt] => [fresh, salt],
+        [delta, ..] => [delta, delta + 1],
+    }
 }
 
 /// A case in slices. Its record is a slice too, so that it can be too short.
@@ -32,13 +39,13 @@ impl Slices {
     pub fn printed() -> Slices {
         let one = [10_000, -204_800, 245_760, 200, 0, 0, 0, 0, 0, 5, 0, 0, 8_192, 0, 8_192, 0];
         let two = [10_000, -204_800, 245_760, 200, 0, 0, 150, -4_096, 4_096, 0, 0, 0, 8_191, 0, 8_191, 0];
-        Slices { record: vec![2, 1, 1, 40, 0, 30, 5], columns: vec![100, 100], rows: vec![100], slots: [one, two].concat() }
+        Slices { record: vec![2, 1, 1, 40, 0, 0, 0, 30, 5], columns: vec![100, 100], rows: vec![100], slots: [one, two].concat() }
     }
 
     /// A grid of inactive blocks, widths 100 m.
     pub fn empty(columns: usize, rows: usize, layers: usize) -> Slices {
         Slices {
-            record: vec![columns as i64, rows as i64, layers as i64, 40, 0, 30, 5],
+            record: vec![columns as i64, rows as i64, layers as i64, 40, 0, 0, 0, 30, 5],
             columns: vec![100; columns],
             rows: vec![100; rows],
             slots: vec![0; SLOTS * columns * rows * layers],
@@ -57,6 +64,18 @@ impl Slices {
         let mut case = self.clone();
         case.record[place] = value;
         case
+    }
+
+    /// The same with another δ, fresh weight and salt weight.
+    pub fn with_density(&self, density: [i64; 3]) -> Slices {
+        let mut case = self.clone();
+        case.record[place::DELTA..=place::SALT_WEIGHT].copy_from_slice(&density);
+        case
+    }
+
+    /// The weights of fresh and of salt water.
+    pub fn weights(&self) -> [i64; 2] {
+        weights_of([place::DELTA, place::FRESH_WEIGHT, place::SALT_WEIGHT].map(|place| self.record[place]))
     }
 
     /// How many blocks the slots are enough for.
@@ -95,9 +114,16 @@ impl Slices {
         self.block_mut(block)[slot::KIND..=slot::BOUNDARY_LEAKANCE].copy_from_slice(&boundary);
     }
 
-    /// The numbers of the case file in their order: document 01, "The case file".
+    /// The numbers of the record that a case file sends: the weights after a δ of 0 only.
+    fn sent_record(&self) -> impl Iterator<Item = &i64> {
+        let is_whole = self.record.get(place::DELTA).is_some_and(|&delta| delta != 0);
+        let is_sent = move |place: usize| !(is_whole && (place::FRESH_WEIGHT..=place::SALT_WEIGHT).contains(&place));
+        self.record.iter().enumerate().filter(move |(place, _)| is_sent(*place)).map(|(_, number)| number)
+    }
+
+    /// The numbers of the case file in their order: document 01, "The case file", and document 02, W-209.
     pub fn numbers(&self) -> Vec<u64> {
-        let mut numbers: Vec<u64> = self.record.iter().chain(&self.columns).chain(&self.rows).map(|&n| n as u64).collect();
+        let mut numbers: Vec<u64> = self.sent_record().chain(&self.columns).chain(&self.rows).map(|&n| n as u64).collect();
         for block in self.slots.chunks(SLOTS) {
             let sent = if block[slot::K] == 0 { 1 } else { SLOTS };
             let is_open = matches!(block.get(slot::KIND), Some(&kind::RIVER | &kind::SEA));

@@ -124,8 +124,8 @@ impl Packed {
     /// Counts and flag go without a sign, and may be numbers below zero of the same 64 bits.
     fn case(&mut self) -> Slices {
         let [columns, rows, layers] = std::array::from_fn(|_| self.word() as i64);
-        let (delta, flag) = (self.signed(), self.word() as i64);
-        let record = vec![columns, rows, layers, delta, flag, self.signed(), self.signed()];
+        let [delta, fresh, salt] = std::array::from_fn(|_| self.signed());
+        let record = vec![columns, rows, layers, delta, fresh, salt, self.word() as i64, self.signed(), self.signed()];
         let [columns, rows, slots] = self.counts();
         Slices { record, columns: self.signed_numbers(columns), rows: self.signed_numbers(rows), slots: self.signed_numbers(slots) }
     }

@@ -19,6 +19,9 @@ enum Fault {
     CheckAcceptsAll,
     CheckRefusesAll,
     BlockIsNotNamed,
+    WeightBesideWholeDelta,
+    PairFourApart,
+    WeightsAsWholeDelta,
     VerdictOfZerosForLayers,
     VerdictCountsOnePlace,
     TableOfZeros,
@@ -65,6 +68,25 @@ fn over_marked(case: &Slices, marks: &[i64], litres: fn(&Slices, usize) -> i64) 
     (1..=case.blocks()).filter(|&number| marks[number - 1] == 1).map(|number| litres(case, number)).sum()
 }
 
+/// The case with weights as a check with this fault takes them: none beside a whole δ, or 4 apart as if 5.
+fn let_pass(fault: Fault, case: &Slices) -> Slices {
+    let mut taken = case.clone();
+    if let Some([delta, fresh, salt]) = taken.record.get_mut(place::DELTA..=place::SALT_WEIGHT) {
+        match fault {
+            Fault::WeightBesideWholeDelta if *delta != 0 => (*fresh, *salt) = (0, 0),
+            Fault::PairFourApart if salt.wrapping_sub(*fresh) == 4 => *salt = salt.wrapping_add(1),
+            _ => {}
+        }
+    }
+    taken
+}
+
+/// A well-formed case with a whole δ in place of its weights: the whole number nearest to fresh over their difference, at most 100.
+fn as_whole_delta(case: &Slices) -> Slices {
+    let [light, heavy] = case.weights();
+    case.with_density([((light + heavy) / (2 * (heavy - light))).min(100), 0, 0])
+}
+
 impl Engine for Faulty {
     fn read(&self, file: &[u8], lent: &mut Slices, block: &mut usize) -> u64 {
         let before = lent.clone();
@@ -79,7 +101,7 @@ impl Engine for Faulty {
     }
 
     fn check(&self, case: &Slices, block: &mut usize) -> u64 {
-        let refusal = Archive.check(case, block);
+        let refusal = Archive.check(&let_pass(self.0, case), block);
         match self.0 {
             Fault::CheckAcceptsAll => {
                 *block = 0;
@@ -97,6 +119,7 @@ impl Engine for Faulty {
     fn verdict(&self, case: &Slices, verdict: &mut [i64], block: &mut usize) -> u64 {
         let refusal = Archive.verdict(case, verdict, block);
         match self.0 {
+            Fault::WeightsAsWholeDelta if refusal == 0 => _ = Archive.verdict(&as_whole_delta(case), verdict, block),
             Fault::VerdictOfZerosForLayers if refusal == 0 && case.record[place::LAYERS] > 1 => verdict[..4].fill(0),
             Fault::VerdictCountsOnePlace if refusal == 0 => verdict[2] = verdict[2].min(1),
             _ => {}
@@ -186,6 +209,9 @@ fn each_fault_is_found_in_its_function() {
         (Fault::CheckAcceptsAll, "check"),
         (Fault::CheckRefusesAll, "check"),
         (Fault::BlockIsNotNamed, "check"),
+        (Fault::WeightBesideWholeDelta, "check"),
+        (Fault::PairFourApart, "check"),
+        (Fault::WeightsAsWholeDelta, "verdict"),
         (Fault::VerdictOfZerosForLayers, "verdict"),
         (Fault::VerdictCountsOnePlace, "verdict"),
         (Fault::TableOfZeros, "zone_table"),

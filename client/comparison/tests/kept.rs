@@ -33,8 +33,8 @@ fn the_printed_case_has_this_line() {
     let written = "{\"header\": [2, 1, 1, 40, 0, 0, 0, 30, 5], \"cw\": [100, 100], \"rw\": [100], \"slots\": [10000, -204800, 245760], \
                    \"marks\": [1, 0], \"block\": 2, \"room\": [4, 18, 5]}";
     assert_eq!(line(&asked.into()), written);
-    let file = File { bytes: vec![0xAC, 0x02], room: [7, 1, 2, 3] };
-    assert_eq!(line(&file.into()), "{\"file\": \"ac02\", \"caps\": [1, 2, 3], \"room\": [7]}");
+    let file = File { bytes: vec![0xAC, 0x02], room: [9, 1, 2, 3] };
+    assert_eq!(line(&file.into()), "{\"file\": \"ac02\", \"caps\": [1, 2, 3], \"room\": [9]}");
     let level = Level { bits: 1 << 63, tick: -5 };
     assert_eq!(line(&level.into()), "{\"bits\": \"8000000000000000\", \"shown\": -5}");
 }
@@ -77,7 +77,7 @@ fn a_line_of_another_form_is_an_error() {
         "{\"file\": \"\", \"caps\": [1, 2, -3]}",
         "{\"bits\": \"\"}",
         "{\"bits\": \"0\", \"shown\": 9223372036854775808}",
-        "{\"header\": [1, 2, 3, 4, 5, 0, 0], \"cw\": [], \"rw\": [], \"slots\": []}",
+        "{\"header\": [1, 2, 3, 4, 5, 0, \"0\"], \"cw\": [], \"rw\": [], \"slots\": []}",
         "{\"header\": [1], \"cw\": [], \"rw\": []}",
         "{\"header\": [1.5], \"cw\": [], \"rw\": [], \"slots\": []}",
         "{\"header\": [1], \"cw\": [], \"rw\": [], \"slots\": [], \"block\": -1}",

@@ -16,7 +16,21 @@ const INPUTS: u64 = 5_000;
 
 /// What must be found in at least so many cases.
 const WANTED: [(usize, &[&str]); 3] = [
-    (400, &["more than one layer", "flag 0", "flag 1", "boundary 0", "boundary 1", "boundary 2", "boundary 3", "boundary 4", "boundary 5"]),
+    (
+        400,
+        &[
+            "weights",
+            "more than one layer",
+            "flag 0",
+            "flag 1",
+            "boundary 0",
+            "boundary 1",
+            "boundary 2",
+            "boundary 3",
+            "boundary 4",
+            "boundary 5",
+        ],
+    ),
     (
         50,
         &[
@@ -25,6 +39,14 @@ const WANTED: [(usize, &[&str]); 3] = [
             "δ 40",
             "δ 99",
             "δ 100",
+            "fresh weight 990",
+            "fresh weight 1000",
+            "fresh weight 1010",
+            "salt weight 1023",
+            "salt weight 1050",
+            "weights 5 apart",
+            "an interface between two ticks",
+            "a salt K between two whole ones",
             "fresh tip with the edge behind",
             "salt tip with the edge behind",
             "fresh tip with more of it behind",
@@ -60,6 +82,7 @@ const WANTED: [(usize, &[&str]); 3] = [
     (
         10,
         &[
+            "salt weight 1011",
             "eight layers",
             "512 blocks",
             "fresh tip with an inactive block behind",
@@ -93,7 +116,15 @@ impl Looked<'_> {
     fn look_at_record(&mut self) {
         let record = &self.case.record;
         let (delta, flag, layers) = (record[place::DELTA], record[place::FLAG], record[place::LAYERS]);
-        self.add(format!("δ {delta}"));
+        if delta == 0 {
+            let [fresh, salt] = self.case.weights();
+            self.add("weights");
+            self.add(format!("fresh weight {fresh}"));
+            self.add(format!("salt weight {salt}"));
+            self.add(format!("weights {} apart", salt - fresh));
+        } else {
+            self.add(format!("δ {delta}"));
+        }
         self.add(format!("flag {flag}"));
         for (name, is_so) in
             [("more than one layer", layers > 1), ("eight layers", layers == 8), ("512 blocks", self.thicknesses.len() == 512)]
@@ -113,7 +144,11 @@ impl Looked<'_> {
         let above = (block + a_layer <= case.blocks() && case.is_active(block + a_layer)).then(|| block + a_layer);
         let is_empty = |block: usize| self.thicknesses[block - 1] == Some([0, 0]);
         let moved = |old: usize, new: usize, kind: i64| slots[old] != slots[new] && [kind, kind::BOTH_FIXED].contains(&boundary);
+        let [light, heavy] = case.weights();
+        let between_ticks = (heavy * slots[slot::NEW_SALT] - light * slots[slot::NEW_FRESH]) % (heavy - light) != 0;
         let facts = [
+            ("an interface between two ticks", fresh > 0 && salt > 0 && between_ticks),
+            ("a salt K between two whole ones", case.record[place::DELTA] == 0 && slots[slot::K] * heavy % light != 0),
             ("a pumping well", pumpage > 0),
             ("an injecting well", pumpage < 0),
             ("a screen across the interface", fresh > 0 && salt > 0 && within(base + salt)),

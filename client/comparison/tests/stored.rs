@@ -37,7 +37,7 @@ fn told(answer: &Answer, word: &str, numbers: &[i64]) -> String {
 #[test]
 fn there_are_so_many() {
     let Vectors { cases, reads, slices, tables, reports, doubles } = vectors();
-    assert_eq!([&cases, &reads, &slices, &tables, &reports, &doubles].map(Vec::len), [672, 120, 281, 210, 121, 407]);
+    assert_eq!([&cases, &reads, &slices, &tables, &reports, &doubles].map(Vec::len), [1_027, 262, 477, 335, 214, 407]);
 }
 
 #[test]

@@ -1,11 +1,12 @@
-//! Document 01, "The case file".
+//! Document 01, "The case file", with W-209 of document 02.
 
 use crate::refusal_numbers::{
-    judge, judge_conductances, judge_room, judge_tops, judge_total, BYTES_FOLLOW, COUNT, FILE_ENDS, LONG_FORM, RECORD, SLOT, WIDTH,
+    judge, judge_conductances, judge_pair, judge_room, judge_tops, judge_total, BYTES_FOLLOW, COUNT, FILE_ENDS, LONG_FORM, RECORD, SLOT,
+    WIDTH,
 };
 use crate::units_and_ranges::{
-    remaining_rules, river_or_sea, within, Block, Counts, Ends, Grid, BOUNDARY_LEAKANCE, COUNT_ENDS, DELTA_ENDS, FLAG_ENDS, K, KIND,
-    LAYER_ENDS, LEVEL, SLOTS, SLOT_ENDS, STEP_ENDS, TOLERANCE_ENDS, WIDTH_ENDS,
+    remaining_rules, river_or_sea, within, Block, Counts, Ends, Grid, BOUNDARY_LEAKANCE, COUNT_ENDS, DELTA_ENDS, FLAG_ENDS,
+    FRESH_WEIGHT_ENDS, K, KIND, LAYER_ENDS, LEVEL, SALT_WEIGHT_ENDS, SLOTS, SLOT_ENDS, STEP_ENDS, TOLERANCE_ENDS, WIDTH_ENDS,
 };
 use crate::{Case, Record, Refusal};
 
@@ -75,13 +76,29 @@ impl<'a> Reader<'a> {
         Ok(counts)
     }
 
-    /// "δ, flag, step, tolerance", after the counts.
+    /// W-209: "A δ of 0 in the case now means that two more numbers follow: fresh weight .. and salt weight .., at least 5 apart". "zero when
+    /// δ is whole".
+    fn weights(&mut self, delta: i64) -> Result<[i64; 2], Refusal> {
+        if delta != 0 {
+            return Ok([0, 0]);
+        }
+        let fresh = self.number_within(FRESH_WEIGHT_ENDS, RECORD)?;
+        let salt = self.number_within(SALT_WEIGHT_ENDS, RECORD)?;
+        judge_pair(fresh, salt)?;
+        Ok([fresh, salt])
+    }
+
+    /// "δ, flag, step, tolerance", after the counts; what W-209 adds is "judged right after δ".
     fn record(&mut self, counts: Counts) -> Result<Record, Refusal> {
+        let delta = self.number_within((0, DELTA_ENDS.1), RECORD)?;
+        let [fresh_weight, salt_weight] = self.weights(delta)?;
         Ok(Record {
             columns: counts.columns as i64,
             rows: counts.rows as i64,
             layers: counts.layers as i64,
-            delta: self.number_within(DELTA_ENDS, RECORD)?,
+            delta,
+            fresh_weight,
+            salt_weight,
             flag: self.number_within(FLAG_ENDS, RECORD)?,
             step: self.number_within(STEP_ENDS, RECORD)?,
             tolerance: self.number_within(TOLERANCE_ENDS, RECORD)?,

@@ -1,12 +1,15 @@
-//! Document 01, "A lateral face", with W-206 of document 02.
+//! Document 01, "A lateral face", with W-206 and W-209 of document 02.
 
 use crate::one_block::Levels;
 use crate::units_and_ranges::{floor, nearest, Grid, Site, TICKS_IN_A_METRE};
 use crate::Record;
 
-/// "K for salt is floor(K(δ+1)/δ)." In mm/day.
+/// "K for salt is floor(K(δ+1)/δ)."; W-209: "the salt K is floor(K·salt/fresh)". In mm/day.
 pub(crate) fn salt_k(record: &Record, k: i64) -> i64 {
-    floor(k * (record.delta + 1), record.delta)
+    match record.weights() {
+        None => floor(k * (record.delta + 1), record.delta),
+        Some((fresh, salt)) => floor(k * salt, fresh),
+    }
 }
 
 /// "With widths L1, L2 along the line and W across: Kf = floor((L1+L2)K1K2 / (L1K2+L2K1))". Widths in metres, K in mm/day, above 0.

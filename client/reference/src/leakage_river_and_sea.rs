@@ -1,13 +1,17 @@
-//! Document 01, "Leakage, river and sea", with W-201 and W-206 of document 02.
+//! Document 01, "Leakage, river and sea", with W-201, W-206 and W-209 of document 02.
 
 use crate::lateral_face::flow;
 use crate::one_block::Levels;
 use crate::units_and_ranges::{cut, floor, river_or_sea, Block, Grid, Site, FRESH, SALT, SEA};
 use crate::Record;
 
-/// "The fresh equivalent of a salt head at level z is floor(((δ+1)Φs - z)/δ)." All in ticks.
+/// "The fresh equivalent of a salt head at level z is floor(((δ+1)Φs - z)/δ)."; W-209: "the fresh equivalent is floor((salt·Φs - (salt -
+/// fresh)·z)/fresh)". All in ticks.
 pub(crate) fn fresh_equivalent(record: &Record, salt_head: i64, level: i64) -> i64 {
-    floor((record.delta + 1) * salt_head - level, record.delta)
+    match record.weights() {
+        None => floor((record.delta + 1) * salt_head - level, record.delta),
+        Some((fresh, salt)) => floor(salt * salt_head - (salt - fresh) * level, fresh),
+    }
 }
 
 /// "Fluid of the lower block: fresh if its Bf > 0, else salt."
@@ -98,9 +102,13 @@ pub(crate) fn recharge(block: &Block, area: i64, water_table: bool) -> [i64; 2] 
     litres
 }
 
-/// "for a sea it is the depth (minus the sea floor's level) divided by δ, with floor." In ticks.
+/// "for a sea it is the depth (minus the sea floor's level) divided by δ, with floor."; W-209: "the sea's head is its depth times (salt -
+/// fresh), divided by fresh, with floor". In ticks.
 pub(crate) fn sea_head(record: &Record, sea_floor: i64) -> i64 {
-    floor(-sea_floor, record.delta)
+    match record.weights() {
+        None => floor(-sea_floor, record.delta),
+        Some((fresh, salt)) => floor(-sea_floor * (salt - fresh), fresh),
+    }
 }
 
 /// "rivers and seas exchange nothing. Otherwise .. a river or sea exchanges the block's upper fluid .., by the same C and flow rule,

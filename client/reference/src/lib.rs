@@ -31,7 +31,7 @@ pub struct Refusal {
     pub block: usize,
 }
 
-/// The first seven numbers of a case.
+/// The first numbers of a case.
 #[derive(Clone, Copy, Debug, PartialEq, Eq)]
 pub struct Record {
     /// How many columns there are.
@@ -40,8 +40,12 @@ pub struct Record {
     pub rows: i64,
     /// How many layers there are.
     pub layers: i64,
-    /// δ, whole: the weight of fresh water over the difference of the two weights.
+    /// δ, whole: the weight of fresh water over the difference of the two weights. 0 where the two weights are given.
     pub delta: i64,
+    /// The weight of fresh water, grams a litre; 0 where δ is whole.
+    pub fresh_weight: i64,
+    /// The weight of salt water, grams a litre; 0 where δ is whole.
+    pub salt_weight: i64,
     /// 1 where the top layer has a water table, otherwise 0.
     pub flag: i64,
     /// The time step, days.
@@ -50,10 +54,18 @@ pub struct Record {
     pub tolerance: i64,
 }
 
+impl Record {
+    /// W-209 of document 02: "A δ of 0 in the case now means that two more numbers follow". Fresh and salt, grams a litre; none of a whole δ,
+    /// for which the rules stand as document 01 has them.
+    pub(crate) fn weights(&self) -> Option<(i64, i64)> {
+        (self.delta == 0).then_some((self.fresh_weight, self.salt_weight))
+    }
+}
+
 /// A case in slices: widths in metres, sixteen slots to a block. A slice may be too short or have room to spare.
 #[derive(Clone, Copy, Debug)]
 pub struct Case<'a> {
-    /// The first seven numbers.
+    /// The first numbers.
     pub record: Record,
     /// Column widths, metres.
     pub columns: &'a [i64],

@@ -76,7 +76,8 @@ mod tests {
     use crate::{check, floor_tick, metres, report, tick, verdict, zone_table, Record};
     use std::hint::black_box;
 
-    const RECORD: Record = Record { columns: 1, rows: 1, layers: 1, delta: 40, flag: 0, step: 30, tolerance: 5 };
+    const RECORD: Record =
+        Record { columns: 1, rows: 1, layers: 1, delta: 40, fresh_weight: 0, salt_weight: 0, flag: 0, step: 30, tolerance: 5 };
 
     /// "Base -204,800, thickness 245,760, δ 40, salt head 0 for a to c."
     fn rows_a_to_c(fresh_head: i64) -> [i64; SLOTS] {

@@ -1,11 +1,14 @@
-//! Document 01, "One block".
+//! Document 01, "One block", with W-209 of document 02.
 
 use crate::units_and_ranges::{cut, floor, Block, FLUIDS, FRESH, SALT, TICKS_IN_A_METRE};
 use crate::Record;
 
-/// "ζ = (1+δ)Φs - δΦf". In ticks; it may lie far outside the aquifer.
+/// "ζ = (1+δ)Φs - δΦf"; W-209: "ζ is floor((salt·Φs - fresh·Φf)/(salt - fresh))". In ticks; it may lie far outside the aquifer.
 pub(crate) fn interface(record: &Record, heads: [i64; 2]) -> i64 {
-    (1 + record.delta) * heads[SALT] - record.delta * heads[FRESH]
+    match record.weights() {
+        None => (1 + record.delta) * heads[SALT] - record.delta * heads[FRESH],
+        Some((fresh, salt)) => floor(salt * heads[SALT] - fresh * heads[FRESH], salt - fresh),
+    }
 }
 
 /// "Saturated top U = aquifer top; in the top layer with flag 1 it is the lesser of aquifer top and Φf, but never below base." In ticks.

@@ -3,8 +3,8 @@
 use crate::lateral_face::{conductance, face_k, Face};
 use crate::leakage_river_and_sea::leakage_conductance;
 use crate::units_and_ranges::{
-    river_or_sea, slots_in_range, within, Counts, Grid, Site, COUNT_ENDS, DELTA_ENDS, FLAG_ENDS, FLUIDS, GREATEST_BLOCKS, LAYER_ENDS,
-    SLOTS, STEP_ENDS, TOLERANCE_ENDS, WIDTH_ENDS,
+    river_or_sea, slots_in_range, within, Counts, Grid, Site, COUNT_ENDS, DELTA_ENDS, FLAG_ENDS, FLUIDS, FRESH_WEIGHT_ENDS,
+    GREATEST_BLOCKS, LAYER_ENDS, LEAST_APART, SALT_WEIGHT_ENDS, SLOTS, STEP_ENDS, TOLERANCE_ENDS, WIDTH_ENDS,
 };
 use crate::{Case, Record, Refusal};
 
@@ -14,7 +14,7 @@ pub(crate) const FILE_ENDS: u64 = 1;
 pub(crate) const LONG_FORM: u64 = 2;
 /// "a count or the block total is out of range".
 pub(crate) const COUNT: u64 = 3;
-/// "δ, flag, step or tolerance is out of range".
+/// "δ, flag, step or tolerance is out of range"; W-209 of document 02: "4 for a weight or pair out of range".
 pub(crate) const RECORD: u64 = 4;
 /// "a width is out of range".
 pub(crate) const WIDTH: u64 = 5;
@@ -70,9 +70,25 @@ pub(crate) fn judge_room(counts: Counts, columns: &[i64], rows: &[i64], slots: &
     judge(room, ROOM, 0)
 }
 
+/// W-209 of document 02: "fresh weight 990..=1,010 and salt weight 1,011..=1,050, at least 5 apart". The weights are in their ranges.
+pub(crate) fn judge_pair(fresh: i64, salt: i64) -> Result<(), Refusal> {
+    judge(salt - fresh >= LEAST_APART, RECORD, 0)
+}
+
+/// W-209: "4 for a weight or pair out of range, or in slices a weight other than 0 beside a whole δ, judged right after δ".
+fn judge_weights(record: &Record) -> Result<(), Refusal> {
+    let Some((fresh, salt)) = record.weights() else {
+        return judge(record.fresh_weight == 0 && record.salt_weight == 0, RECORD, 0);
+    };
+    judge(within(fresh, FRESH_WEIGHT_ENDS), RECORD, 0)?;
+    judge(within(salt, SALT_WEIGHT_ENDS), RECORD, 0)?;
+    judge_pair(fresh, salt)
+}
+
 /// "4 | δ, flag, step or tolerance is out of range".
 fn judge_record(record: &Record) -> Result<(), Refusal> {
-    judge(within(record.delta, DELTA_ENDS), RECORD, 0)?;
+    judge(record.delta == 0 || within(record.delta, DELTA_ENDS), RECORD, 0)?;
+    judge_weights(record)?;
     judge(within(record.flag, FLAG_ENDS), RECORD, 0)?;
     judge(within(record.step, STEP_ENDS), RECORD, 0)?;
     judge(within(record.tolerance, TOLERANCE_ENDS), RECORD, 0)

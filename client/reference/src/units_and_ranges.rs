@@ -24,6 +24,12 @@ pub(crate) const LAYER_ENDS: Ends = (1, 8);
 pub(crate) const GREATEST_BLOCKS: usize = 512;
 /// "δ, whole".
 pub(crate) const DELTA_ENDS: Ends = (1, 100);
+/// W-209 of document 02: "fresh weight 990..=1,010", grams a litre.
+pub(crate) const FRESH_WEIGHT_ENDS: Ends = (990, 1_010);
+/// W-209: "salt weight 1,011..=1,050", grams a litre.
+pub(crate) const SALT_WEIGHT_ENDS: Ends = (1_011, 1_050);
+/// W-209: "at least 5 apart", grams a litre.
+pub(crate) const LEAST_APART: i64 = 5;
 /// "water-table flag".
 pub(crate) const FLAG_ENDS: Ends = (0, 1);
 /// "time step, days".

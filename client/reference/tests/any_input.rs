@@ -30,7 +30,26 @@ impl Numbers {
 
     fn wild(&mut self) -> i64 {
         let word = self.word() as i64;
-        self.one_of(&[0, 1, -1, 2, 5, 64, 65, 100, 512, 4_096, 4_194_304, -4_194_305, 1_073_741_825, i64::MIN, i64::MAX, word])
+        self.one_of(&[
+            0,
+            1,
+            -1,
+            2,
+            5,
+            64,
+            65,
+            100,
+            512,
+            1_000,
+            1_023,
+            4_096,
+            4_194_304,
+            -4_194_305,
+            1_073_741_825,
+            i64::MIN,
+            i64::MAX,
+            word,
+        ])
     }
 
     fn list(&mut self, length: usize, number: impl Fn(&mut Numbers) -> i64) -> Vec<i64> {
@@ -59,7 +78,7 @@ impl Owned {
     fn damage(&mut self, numbers: &mut Numbers) {
         let record = &mut self.record;
         let mut all = vec![&mut record.columns, &mut record.rows, &mut record.layers, &mut record.delta, &mut record.flag];
-        all.extend([&mut record.step, &mut record.tolerance]);
+        all.extend([&mut record.fresh_weight, &mut record.salt_weight, &mut record.step, &mut record.tolerance]);
         all.extend(self.columns.iter_mut().chain(&mut self.rows).chain(&mut self.slots));
         let place = numbers.below(all.len());
         *all[place] = numbers.wild();
@@ -111,11 +130,17 @@ fn block(numbers: &mut Numbers, top_layer: bool, level: i64, span: i64) -> [i64;
 /// A case that keeps its ranges, and mostly 10 too.
 fn ordered(numbers: &mut Numbers) -> Owned {
     let [columns, rows, layers] = [1 + numbers.below(5), 1 + numbers.below(5), 1 + numbers.below(4)];
+    let delta = numbers.within(0, 100);
+    let fresh_weight = numbers.within(990, 1_010);
+    let salt_weight = numbers.within(1_011.max(fresh_weight + 5), 1_050);
+    let [fresh_weight, salt_weight] = if delta == 0 { [fresh_weight, salt_weight] } else { [0, 0] };
     let record = Record {
         columns: columns as i64,
         rows: rows as i64,
         layers: layers as i64,
-        delta: numbers.within(1, 100),
+        delta,
+        fresh_weight,
+        salt_weight,
         flag: numbers.within(0, 1),
         step: numbers.within(1, 36_525),
         tolerance: numbers.within(0, 1_000_000_000),
@@ -134,7 +159,11 @@ fn ordered(numbers: &mut Numbers) -> Owned {
 /// The same as a file.
 fn file(owned: &Owned) -> Vec<u8> {
     let record = &owned.record;
-    let mut sent = vec![record.columns, record.rows, record.layers, record.delta, record.flag, record.step, record.tolerance];
+    let mut sent = vec![record.columns, record.rows, record.layers, record.delta];
+    if record.delta == 0 {
+        sent.extend([record.fresh_weight, record.salt_weight]);
+    }
+    sent.extend([record.flag, record.step, record.tolerance]);
     sent.extend(owned.columns.iter().chain(&owned.rows));
     for block in owned.slots.chunks_exact(16) {
         let river_or_sea = block[9] == 1 || block[9] == 2;
@@ -172,8 +201,8 @@ fn ask_all(owned: &Owned, marks: &[i64], number: usize) -> bool {
 fn any_slices() {
     let mut numbers = Numbers(1);
     for _ in 0..5_000 {
-        let [columns, rows, layers, delta, flag, step, tolerance] = [0; 7].map(|_| numbers.wild());
-        let record = Record { columns, rows, layers, delta, flag, step, tolerance };
+        let [columns, rows, layers, delta, fresh_weight, salt_weight, flag, step, tolerance] = [0; 9].map(|_| numbers.wild());
+        let record = Record { columns, rows, layers, delta, fresh_weight, salt_weight, flag, step, tolerance };
         let lengths = [numbers.below(7), numbers.below(7), numbers.below(65), numbers.below(7)];
         let [columns, rows, slots, marks] = lengths.map(|length| numbers.list(length, Numbers::wild));
         let number = numbers.wild() as usize;

@@ -22,9 +22,11 @@ impl Wrapped for Slices {
             rows: number(1),
             layers: number(2),
             delta: number(3),
-            flag: number(4),
-            step: number(5),
-            tolerance: number(6),
+            fresh_weight: number(4),
+            salt_weight: number(5),
+            flag: number(6),
+            step: number(7),
+            tolerance: number(8),
         }
     }
 

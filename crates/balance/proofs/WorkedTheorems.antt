@@ -7,6 +7,7 @@ use Rattle.whole.specs.Ranges.{inRange}
 use Rattle.whole.specs.Sum.{back, sum}
 use Rattle.whole.specs.Whole.{clampOf}
 use Rattle.grid.specs.Place.{behindOf, hasNext, hasPrevious, neighbourOf, nextOf, placeOf, previousOf, topOf}
+use Rattle.grid.specs.Weights.{weightsOf}
 use Rattle.slots.specs.Slots.{slotsAt}
 use Rattle.slices.specs.Slices.{Case, caseOf}
 use Rattle.slices.proofs.WorkedTheorems.{printedCase, sized}
@@ -29,7 +30,7 @@ use Rattle.balance.specs.Balance.{balanceIn, balanceOf, balancesOf, flow
 
 -- the two blocks of the printed session: the second is free, and off by 4 litres a day in fresh water
 pub printed-balances : (balancesOf printedCase 0 ≡ fluidsOf (negℤ (pos 146)) (pos 0)) × (balancesOf printedCase 1 ≡ fluidsOf (negℤ (pos 4)) (pos 0))
-unfolding inRange sum back clampOf placeOf topOf hasNext hasPrevious nextOf previousOf neighbourOf behindOf slotsAt interfaceOf saltKOf freshEquivalentOf seaHeadOf aquiferTopOf hasWaterTable saturatedTopOf heldOf levelsOf thicknessesOf volumeOf storageOf lengthWithin lengthsOf freshShareOf sharesOf belowTop rechargeOf boundaryHeadOf exchangeOf exchangedAs gainOf boundaryOf faceKOf conductanceOf tipOf faceThicknessOf faceConductanceOf lateralOf uppermostOf lowermostOf differenceOf leakageOf litresOf leavingOf overAreaOf liveOf areaAt levelsAt watersOf booksOf broughtOf sideOf tipBehindOf lateralAt leakageAt namedOf pumpedAt storageAt ownOf fixedOf throughOf flowsOf balanceIn balanceOf
+unfolding inRange sum back clampOf placeOf topOf hasNext hasPrevious nextOf previousOf neighbourOf behindOf slotsAt weightsOf interfaceOf saltKOf freshEquivalentOf seaHeadOf aquiferTopOf hasWaterTable saturatedTopOf heldOf levelsOf thicknessesOf volumeOf storageOf lengthWithin lengthsOf freshShareOf sharesOf belowTop rechargeOf boundaryHeadOf exchangeOf exchangedAs gainOf boundaryOf faceKOf conductanceOf tipOf faceThicknessOf faceConductanceOf lateralOf uppermostOf lowermostOf differenceOf leakageOf litresOf leavingOf overAreaOf liveOf areaAt levelsAt watersOf booksOf broughtOf sideOf tipBehindOf lateralAt leakageAt namedOf pumpedAt storageAt ownOf fixedOf throughOf flowsOf balanceIn balanceOf
 printed-balances = (refl, refl)
 
 -- a block at rest in the numbers of rows a to c, by its heads
@@ -44,5 +45,5 @@ tipCase = caseOf (sized 3 1 1) (pos 100 ∷ pos 100 ∷ pos 100 ∷ []) (pos 100
 -- enter the third, whose balance they are.
 pub tip-face-counts :
     (inFluid (watersOf (tipCase .grid) (tipCase .slots) 2) salt ≡ pos 0) × ((broughtOf (booksOf tipCase salt) true 0 1 ≡ negℤ (pos 1021)) × (balanceOf tipCase salt 2 ≡ pos 1021))
-unfolding resting tipCase inRange sum back clampOf placeOf topOf hasNext hasPrevious nextOf previousOf neighbourOf behindOf slotsAt interfaceOf saltKOf freshEquivalentOf seaHeadOf aquiferTopOf hasWaterTable saturatedTopOf heldOf levelsOf thicknessesOf volumeOf storageOf lengthWithin lengthsOf freshShareOf sharesOf belowTop rechargeOf boundaryHeadOf exchangeOf exchangedAs gainOf boundaryOf faceKOf conductanceOf tipOf faceThicknessOf faceConductanceOf lateralOf uppermostOf lowermostOf differenceOf leakageOf litresOf leavingOf overAreaOf liveOf areaAt levelsAt watersOf booksOf broughtOf sideOf tipBehindOf lateralAt leakageAt namedOf pumpedAt storageAt ownOf fixedOf throughOf flowsOf balanceIn balanceOf
+unfolding resting tipCase inRange sum back clampOf placeOf topOf hasNext hasPrevious nextOf previousOf neighbourOf behindOf slotsAt weightsOf interfaceOf saltKOf freshEquivalentOf seaHeadOf aquiferTopOf hasWaterTable saturatedTopOf heldOf levelsOf thicknessesOf volumeOf storageOf lengthWithin lengthsOf freshShareOf sharesOf belowTop rechargeOf boundaryHeadOf exchangeOf exchangedAs gainOf boundaryOf faceKOf conductanceOf tipOf faceThicknessOf faceConductanceOf lateralOf uppermostOf lowermostOf differenceOf leakageOf litresOf leavingOf overAreaOf liveOf areaAt levelsAt watersOf booksOf broughtOf sideOf tipBehindOf lateralAt leakageAt namedOf pumpedAt storageAt ownOf fixedOf throughOf flowsOf balanceIn balanceOf
 tip-face-counts = (refl, (refl, refl))

@@ -1,5 +1,5 @@
-// The four rules that read δ, the ratio of the fresh water's weight to the difference of the two (document 01, "One block", "A lateral
-// face", "Leakage, river and sea"). No other rule reads it; grid's judging.rt asks its range.
+// The four rules that read what the waters weigh (document 01, "One block", "A lateral face", "Leakage, river and sea"; document 02, W-209),
+// each once, over a pair of weights. No other rule reads δ or the weights; grid's judging.rt asks their ranges.
 ghost use mathlib.Core.Path.{_≡_};
 ghost use lib.IntN.{pos};
 ghost use Rattle.whole.specs.Inner.{In, Abs};
@@ -9,41 +9,49 @@ ghost use Rattle.block.specs.Inner.{Heads, Level};
 ghost use Rattle.block.specs.Density.{interfaceOf, saltKOf, freshEquivalentOf, seaHeadOf};
 use super::Fluids;
 use grid::Grid;
+use grid::weights::weights_of;
 use whole::floor_div;
 
-// Level of the interface in ticks, not held: "ζ = (1+δ)Φs - δΦf". Inner: δ and heads are in range.
+// Level of the interface in ticks, not held: "floor((salt·Φs - fresh·Φf)/(salt - fresh))". Inner: the record and heads are in range.
 pub fn interface(g: Grid, heads: Fluids) -> i64
     requires { ⌜ Termed g ⌝ }
     requires { ⌜ Heads heads ⌝ }
     ensures { λ r. ⌜ r ≡ interfaceOf g heads ⌝ }
 {
-    (1 + g.delta) * heads.salt - g.delta * heads.fresh
+    let w = weights_of(g);
+    floor_div(
+        w.salt * heads.salt - w.fresh * heads.fresh,
+        w.salt - w.fresh,
+    )
 }
 
-// "K for salt is floor(K(δ+1)/δ)", mm/day. Inner: δ and K are in range.
+// "the salt K is floor(K·salt/fresh)", mm/day. Inner: the record and K are in range.
 pub fn salt_k(g: Grid, k: i64) -> i64
     requires { ⌜ Termed g ⌝ }
     requires { ⌜ In (pos 0) (pos mostK) k ⌝ }
     ensures { λ r. ⌜ r ≡ saltKOf g k ⌝ }
 {
-    floor_div(k * (g.delta + 1), g.delta)
+    let w = weights_of(g);
+    floor_div(k * w.salt, w.fresh)
 }
 
-// "The fresh equivalent of a salt head at level z is floor(((δ+1)Φs - z)/δ)", ticks. Inner: δ, head and level are in range.
+// "the fresh equivalent is floor((salt·Φs - (salt - fresh)·z)/fresh)", of a salt head at level z, ticks. Inner: the record, head and level are in range.
 pub fn fresh_equivalent(g: Grid, salt_head: i64, level: i64) -> i64
     requires { ⌜ Termed g ⌝ }
     requires { ⌜ Abs mostLevel «salt_head» ⌝ }
     requires { ⌜ Level level ⌝ }
     ensures { λ r. ⌜ r ≡ freshEquivalentOf g «salt_head» level ⌝ }
 {
-    floor_div((g.delta + 1) * salt_head - level, g.delta)
+    let w = weights_of(g);
+    floor_div(w.salt * salt_head - (w.salt - w.fresh) * level, w.fresh)
 }
 
-// A sea's head, ticks: "the depth (minus the sea floor's level) divided by δ, with floor". Inner: δ and the floor are in range.
+// A sea's head, ticks: "its depth times (salt - fresh), divided by fresh, with floor". Inner: the record and the floor are in range.
 pub fn sea_head(g: Grid, floor: i64) -> i64
     requires { ⌜ Termed g ⌝ }
     requires { ⌜ Abs mostLevel floor ⌝ }
     ensures { λ r. ⌜ r ≡ seaHeadOf g floor ⌝ }
 {
-    floor_div(-floor, g.delta)
+    let w = weights_of(g);
+    floor_div(-floor * (w.salt - w.fresh), w.fresh)
 }

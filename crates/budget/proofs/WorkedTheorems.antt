@@ -6,9 +6,10 @@ use Rattle.whole.specs.Ranges.{allWithin, inRange}
 use Rattle.whole.specs.Search.{every, firstOf}
 use Rattle.whole.specs.Sum.{back, sum}
 use Rattle.whole.specs.Whole.{clampOf}
-use Rattle.grid.specs.Judging.{countsHold, termsHold}
+use Rattle.grid.specs.Judging.{countsHold, densityHolds, termsHold}
 use Rattle.grid.specs.Place.{behindOf, hasNext, hasPrevious, neighbourOf, nextOf, placeOf, previousOf, topOf}
 use Rattle.grid.specs.Record.{recordOf}
+use Rattle.grid.specs.Weights.{weightsOf}
 use Rattle.slots.specs.Ranges.{endsHold, rangeOf}
 use Rattle.slots.specs.Rules.{allZero, boundaryHolds, layerHolds, openHolds, rulesHold, screenWithin, screensHold, slotsHold}
 use Rattle.slots.specs.Slots.{slotsAt}
@@ -50,14 +51,14 @@ printed =
 
 -- the whole is one layer, so that "all" and "layer 1" have the same lines
 pub printed-tables : (wholeAnswer printedCase ≡ given printed) × (layerAnswer printedCase 1 ≡ given printed)
-unfolding firstOf inRange placeOf slotsAt orElse firstRefusal hasNext nextOf aquiferTopOf saltKOf overAreaOf faceKOf conductanceOf areaAt liveOf overlaps greatestOf eitherExceeds faceExceeds aboveExceeds boundaryExceeds blockExceeds atFault firstAtFault limitsOf every allWithin topOf rangeOf endsHold screenWithin screensHold layerHolds boundaryHolds rulesHold allZero slotsHold countsHold termsHold roomHolds widthsHold faultOf shapeOf contentsOf sum back clampOf hasPrevious previousOf neighbourOf behindOf interfaceOf freshEquivalentOf seaHeadOf hasWaterTable saturatedTopOf heldOf levelsOf thicknessesOf volumeOf storageOf lengthWithin lengthsOf freshShareOf sharesOf belowTop rechargeOf boundaryHeadOf exchangeOf exchangedAs gainOf boundaryOf tipOf faceThicknessOf faceConductanceOf lateralOf uppermostOf lowermostOf differenceOf leakageOf litresOf leavingOf levelsAt watersOf booksOf broughtOf sideOf tipBehindOf lateralAt leakageAt namedOf pumpedAt storageAt ownOf fixedOf throughOf flowsOf balanceIn inZone edgeOf edgesOf changes convertedAt ownIn settledOf linesBy rowOf eighteenOf layerZone isDry dryAt dryOf layerAnswer wholeAnswer
+unfolding firstOf inRange placeOf slotsAt orElse firstRefusal hasNext nextOf aquiferTopOf saltKOf overAreaOf faceKOf conductanceOf areaAt liveOf overlaps greatestOf eitherExceeds faceExceeds aboveExceeds boundaryExceeds blockExceeds atFault firstAtFault limitsOf every allWithin topOf rangeOf endsHold screenWithin screensHold layerHolds boundaryHolds rulesHold allZero slotsHold countsHold densityHolds termsHold roomHolds widthsHold faultOf shapeOf contentsOf sum back clampOf hasPrevious previousOf neighbourOf behindOf weightsOf interfaceOf freshEquivalentOf seaHeadOf hasWaterTable saturatedTopOf heldOf levelsOf thicknessesOf volumeOf storageOf lengthWithin lengthsOf freshShareOf sharesOf belowTop rechargeOf boundaryHeadOf exchangeOf exchangedAs gainOf boundaryOf tipOf faceThicknessOf faceConductanceOf lateralOf uppermostOf lowermostOf differenceOf leakageOf litresOf leavingOf levelsAt watersOf booksOf broughtOf sideOf tipBehindOf lateralAt leakageAt namedOf pumpedAt storageAt ownOf fixedOf throughOf flowsOf balanceIn inZone edgeOf edgesOf changes convertedAt ownIn settledOf linesBy rowOf eighteenOf layerZone isDry dryAt dryOf layerAnswer wholeAnswer
 printed-tables = (refl, refl)
 
 -- A grid of two columns, two rows and three layers, of which 1 1 0 1, 0 0 1 0 and 0 1 1 1 are marked, layer by layer. The lines were worked out by
 -- another program, written from documents 01 and 02.
 abbrev twelveBlocks : Case
 twelveBlocks =
-    caseOf (recordOf 2 2 3 (pos 1) 1 (pos 1) (pos 1000000000)) (pos 100 ∷ pos 100 ∷ []) (pos 100 ∷ pos 100 ∷ [])
+    caseOf (recordOf 2 2 3 (pos 1) (pos 0) (pos 0) 1 (pos 1) (pos 1000000000)) (pos 100 ∷ pos 100 ∷ []) (pos 100 ∷ pos 100 ∷ [])
     (pos 22197 ∷ negℤ (pos 277932) ∷ pos 40960 ∷ pos 1000 ∷ pos 1000000 ∷ pos 0 ∷ pos 0 ∷ pos 0 ∷ pos 0 ∷ pos 3 ∷ pos 0 ∷ pos 0 ∷ negℤ (pos 14090) ∷ negℤ (pos 131573) ∷ negℤ (pos 14090) ∷ negℤ (pos 132059)
     ∷ pos 1493 ∷ negℤ (pos 277932) ∷ pos 245760 ∷ pos 200 ∷ pos 52954 ∷ pos 0 ∷ pos 150 ∷ negℤ (pos 277932) ∷ negℤ (pos 32172) ∷ pos 5 ∷ pos 0 ∷ pos 0 ∷ negℤ (pos 14016) ∷ negℤ (pos 112968) ∷ negℤ (pos 14016) ∷ negℤ (pos 112968)
     ∷ pos 25668 ∷ negℤ (pos 257932) ∷ pos 108850 ∷ pos 200 ∷ pos 0 ∷ pos 0 ∷ pos 0 ∷ pos 0 ∷ pos 0 ∷ pos 0 ∷ pos 0 ∷ pos 0 ∷ negℤ (pos 14035) ∷ negℤ (pos 103559) ∷ negℤ (pos 14035) ∷ negℤ (pos 103559)
@@ -78,5 +79,5 @@ sevenMarks = pos 1 ∷ pos 1 ∷ pos 0 ∷ pos 1 ∷ pos 0 ∷ pos 0 ∷ pos 1 �
 pub seven-of-twelve : zoneAnswer twelveBlocks sevenMarks ≡ given (
     pos 1590585 ∷ pos 437293321 ∷ pos 5281 ∷ pos 10825963 ∷ pos 999892 ∷ pos 50000 ∷ pos 0 ∷ negℤ (pos 432589338) ∷ pos 14983972
     ∷ negℤ (pos 1590303) ∷ pos 86616729 ∷ pos 6825940 ∷ negℤ (pos 10825963) ∷ negℤ (pos 41) ∷ pos 0 ∷ negℤ (pos 624) ∷ pos 299004 ∷ pos 70853468 ∷ [])
-unfolding firstOf inRange placeOf slotsAt orElse firstRefusal hasNext nextOf aquiferTopOf saltKOf overAreaOf faceKOf conductanceOf areaAt liveOf overlaps greatestOf eitherExceeds faceExceeds aboveExceeds boundaryExceeds blockExceeds atFault firstAtFault limitsOf every allWithin topOf rangeOf endsHold screenWithin screensHold layerHolds openHolds boundaryHolds rulesHold allZero slotsHold countsHold termsHold roomHolds widthsHold faultOf shapeOf contentsOf sum back clampOf hasPrevious previousOf neighbourOf behindOf interfaceOf freshEquivalentOf seaHeadOf hasWaterTable saturatedTopOf heldOf levelsOf thicknessesOf volumeOf storageOf lengthWithin lengthsOf freshShareOf sharesOf belowTop rechargeOf boundaryHeadOf exchangeOf exchangedAs gainOf boundaryOf tipOf faceThicknessOf faceConductanceOf lateralOf uppermostOf lowermostOf differenceOf leakageOf litresOf leavingOf levelsAt watersOf booksOf broughtOf sideOf tipBehindOf lateralAt leakageAt namedOf pumpedAt storageAt ownOf fixedOf throughOf flowsOf balanceIn inZone edgeOf edgesOf changes convertedAt ownIn settledOf linesBy rowOf eighteenOf markedOf isDry dryAt dryOf lentOf zoneAnswer
+unfolding firstOf inRange placeOf slotsAt orElse firstRefusal hasNext nextOf aquiferTopOf saltKOf overAreaOf faceKOf conductanceOf areaAt liveOf overlaps greatestOf eitherExceeds faceExceeds aboveExceeds boundaryExceeds blockExceeds atFault firstAtFault limitsOf every allWithin topOf rangeOf endsHold screenWithin screensHold layerHolds openHolds boundaryHolds rulesHold allZero slotsHold countsHold densityHolds termsHold roomHolds widthsHold faultOf shapeOf contentsOf sum back clampOf hasPrevious previousOf neighbourOf behindOf weightsOf interfaceOf freshEquivalentOf seaHeadOf hasWaterTable saturatedTopOf heldOf levelsOf thicknessesOf volumeOf storageOf lengthWithin lengthsOf freshShareOf sharesOf belowTop rechargeOf boundaryHeadOf exchangeOf exchangedAs gainOf boundaryOf tipOf faceThicknessOf faceConductanceOf lateralOf uppermostOf lowermostOf differenceOf leakageOf litresOf leavingOf levelsAt watersOf booksOf broughtOf sideOf tipBehindOf lateralAt leakageAt namedOf pumpedAt storageAt ownOf fixedOf throughOf flowsOf balanceIn inZone edgeOf edgesOf changes convertedAt ownIn settledOf linesBy rowOf eighteenOf markedOf isDry dryAt dryOf lentOf zoneAnswer
 seven-of-twelve = refl

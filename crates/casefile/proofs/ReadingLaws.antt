@@ -19,39 +19,45 @@ use Rattle.whole.proofs.RangeLaws.{leaf, within}
 use Rattle.whole.proofs.SearchLaws.{every-passes, follows, none-first, true-is}
 use Rattle.grid.specs.declared.Grid.{Grid}
 use Rattle.grid.specs.Inner.{Counted, Termed}
-use Rattle.grid.specs.Judging.{countsHold, termsHold}
+use Rattle.grid.specs.Judging.{countsHold, densityHolds, termsHold}
 use Rattle.grid.specs.Place.{blocksOf, topOf}
-use Rattle.grid.specs.Record.{counts, terms}
-use Rattle.grid.proofs.JudgingLaws.{counted-counts, termed-terms}
+use Rattle.grid.specs.Record.{counts, density, recordOf, terms}
+use Rattle.grid.proofs.JudgingLaws.{counted-counts, density-weighed, termed-terms}
 use Rattle.slots.specs.Rules.{slotsHold}
 use Rattle.slots.specs.Slots.{partOf}
 use Rattle.slots.specs.Units.{slotsEach}
 use Rattle.slices.specs.declared.Refusal.{Refusal}
-use Rattle.slices.specs.Slices.{Case, blaming, caseOf, contentsOf, faultOf, firstRefusal, mostWidth, none, orElse, roomHolds, shapeOf, slotsFail, unless, widthsHold}
+use Rattle.slices.specs.Slices.{Case, blaming, caseOf, contentsOf, faultOf, firstRefusal, mostWidth, none, orElse, refusal, roomHolds, shapeOf, slotsFail, unless, widthsHold}
 use Rattle.slices.specs.Inner.{Judged, Roomy, judgedOf}
 use Rattle.slices.proofs.SlicesLaws.{contents-pass, here, judged-stands, later, none-among, none-refused, none-together, or-first, or-next, shape-passes}
 use Rattle.wellformed.specs.Limits.{checkedOf, checksOf, firstAtFault, limitsOf}
 use Rattle.fields.specs.declared.Part.{Part}
-use Rattle.fields.specs.declared.Part.the-variants.{Counts, Terms, Widths}
+use Rattle.fields.specs.declared.Part.the-variants.{Counts, Density, Terms, Widths}
 use Rattle.fields.specs.declared.runs.Run.{Run}
 use Rattle.fields.specs.declared.runs.Run.the-variants.{Done, Refused}
 use Rattle.fields.specs.Inner.{Within}
 use Rattle.fields.specs.Fields.{endsOf, recordRange}
 use Rattle.fields.specs.Runs.{endingOf, fillOf}
 use Rattle.fields.proofs.FilledLaws.{Early, Numbered, Telling, blocks-before, blocks-hold, blocks-length, blocks-telling, done-before, done-numbered, done-telling, early-numbered, ended-done, fill-of-length, fill-of-numbered, fill-of-telling, fill-within, number-in, terms-sent, widths-sent}
-use Rattle.casefile.specs.Reading.{Read, giving, after, bodyOf, caseFrom, columnsFrom, countedOf, endChecks, judging, readingOf, refusing, rowsFrom, slotsFrom, termedOf, afterCounts}
+use Rattle.casefile.specs.Reading.{Read, giving, after, afterCounts, afterDensity, bodyOf, caseFrom, columnsFrom, countedOf, endChecks, judging, readingOf, refusing, rowsFrom, slotsFrom, termedOf, weighedOf}
 use Rattle.casefile.specs.Inner.{storedOf}
 
 -- ---- a case that was read
 
--- terms within their ends are what later parts require
-pub termed-within : (g : Grid) (v : List ℤ) → Within Terms terms v → Termed (termedOf g v)
+-- the terms change neither δ nor the weights
+termed-density : (g : Grid) (v : List ℤ) → T (densityHolds g) → T (densityHolds (termedOf g v))
+unfolding termedOf densityHolds
+termed-density g v t = t
+
+-- terms within their ends, beside δ and weights in range, are what later parts require
+pub termed-within : (g : Grid) (v : List ℤ) → T (densityHolds g) → Within Terms terms v → Termed (termedOf g v)
 unfolding termedOf endsOf recordRange
-termed-within g v w = record {
-  delta = term 0 (omega arith);
-  flag = in-abs (within (leaf (term 1 (omega arith))) tt tt);
-  step = term 2 (omega arith);
-  tolerance = term 3 (omega arith);
+termed-within g v t w = record {
+  density = termed-density g v t;
+  weighed = density-weighed (termedOf g v) (termed-density g v t);
+  flag = in-abs (within (leaf (term 0 (omega arith))) tt tt);
+  step = term 1 (omega arith);
+  tolerance = term 2 (omega arith);
 }
   where
     term : (k : ℕ) → k < terms → In (endsOf Terms k .lower) (endsOf Terms k .upper) (getD v k (pos 0))
@@ -99,23 +105,56 @@ body-judged g file at next counted termed e =
 pub case-judged : (g : Grid) (file : List ℕ) (at next : ℕ) → Counted g → Termed g → slotsFrom g file at .run ≡ Done next → Judged (caseFrom g file at)
 case-judged g file at next counted termed e = judged-stands (caseFrom g file at) (body-judged g file at next (counted-counts g counted) (termed-terms g termed) e)
 
--- the terms change neither the counts nor the room
-pub termed-counted : (g : Grid) (v : List ℤ) → Counted g → Counted (termedOf g v)
-unfolding termedOf
-termed-counted g v h =
-    record {
-      columns-some = h .columns-some;
-      columns-most = h .columns-most;
-      rows-some = h .rows-some;
-      rows-most = h .rows-most;
-      layers-some = h .layers-some;
-      layers-most = h .layers-most;
-      blocks-most = h .blocks-most;
-    }
+-- what stands in a record after its counts changes neither these nor the room, nor what 3 and 7 ask for
+module _ (g : Grid) (δ fresh salt : ℤ) (flag : ℕ) (step tolerance : ℤ) where
+  abbrev further : Grid
+  further = recordOf (g .columns) (g .rows) (g .layers) δ fresh salt flag step tolerance
 
-pub termed-roomy : (g : Grid) (v columns rows slots : List ℤ) → Roomy (caseOf g columns rows slots) → Roomy (caseOf (termedOf g v) columns rows slots)
-unfolding termedOf
-termed-roomy g v columns rows slots h = record { columns = h .columns; rows = h .rows; slots = h .slots }
+  further-counted : Counted g → Counted further
+  further-counted h =
+      record {
+        columns-some = h .columns-some;
+        columns-most = h .columns-most;
+        rows-some = h .rows-some;
+        rows-most = h .rows-most;
+        layers-some = h .layers-some;
+        layers-most = h .layers-most;
+        blocks-most = h .blocks-most;
+      }
+
+  further-roomy : (columns rows slots : List ℤ) → Roomy (caseOf g columns rows slots) → Roomy (caseOf further columns rows slots)
+  further-roomy columns rows slots h = record { columns = h .columns; rows = h .rows; slots = h .slots }
+
+  further-shape : (columns rows slots : List ℤ) → shapeOf (caseOf further columns rows slots) ≡ shapeOf (caseOf g columns rows slots)
+  unfolding shapeOf countsHold roomHolds
+  further-shape columns rows slots = refl
+
+-- so do δ and the weights, and the terms
+module _ (g : Grid) (v : List ℤ) where
+  pub weighed-counted : Counted g → Counted (weighedOf g v)
+  unfolding weighedOf
+  weighed-counted = further-counted g _ _ _ _ _ _
+
+  pub termed-counted : Counted g → Counted (termedOf g v)
+  unfolding termedOf
+  termed-counted = further-counted g _ _ _ _ _ _
+
+  module _ (columns rows slots : List ℤ) where
+    pub weighed-roomy : Roomy (caseOf g columns rows slots) → Roomy (caseOf (weighedOf g v) columns rows slots)
+    unfolding weighedOf
+    weighed-roomy = further-roomy g _ _ _ _ _ _ columns rows slots
+
+    pub termed-roomy : Roomy (caseOf g columns rows slots) → Roomy (caseOf (termedOf g v) columns rows slots)
+    unfolding termedOf
+    termed-roomy = further-roomy g _ _ _ _ _ _ columns rows slots
+
+    weighed-shape : shapeOf (caseOf (weighedOf g v) columns rows slots) ≡ shapeOf (caseOf g columns rows slots)
+    unfolding weighedOf
+    weighed-shape = further-shape g _ _ _ _ _ _ columns rows slots
+
+    termed-shape : shapeOf (caseOf (termedOf g v) columns rows slots) ≡ shapeOf (caseOf g columns rows slots)
+    unfolding termedOf
+    termed-shape = further-shape g _ _ _ _ _ _ columns rows slots
 
 -- the run over a file's body tells what the refusals 1 to 6 do
 pub body-telling : (Tells : ℕ → Type 0) → Early Tells → (g : Grid) (file : List ℕ) (at : ℕ) → Telling Tells (slotsFrom g file at .run)
@@ -173,14 +212,34 @@ pub after-done : (run : Run) (at : ℕ) (more : ℕ → Read) → run ≡ Done a
 unfolding after
 after-done run at more e = rw e refl
 
--- what follows the counts, by the run over the terms
-pub terms-refused : (g : Grid) (file : List ℕ) (at : ℕ) (run : Run) (r : Refusal) → run ≡ fillOf (Done at) Terms file terms .run → run ≡ Refused r → afterCounts g file at ≡ refusing r
-unfolding afterCounts
+-- what follows δ and the weights, by the run over the terms
+pub terms-refused : (g : Grid) (file : List ℕ) (at : ℕ) (run : Run) (r : Refusal) → run ≡ fillOf (Done at) Terms file terms .run → run ≡ Refused r → afterDensity g file at ≡ refusing r
+unfolding afterDensity
 terms-refused g file at run r e h = let f = fillOf (Done at) Terms file terms in after-refused (f .run) r _ (sym e ∙ h)
 
-pub terms-done : (g h : Grid) (file : List ℕ) (at next : ℕ) (run : Run) → run ≡ fillOf (Done at) Terms file terms .run → run ≡ Done next → h ≡ termedOf g (fillOf (Done at) Terms file terms .values) → afterCounts g file at ≡ bodyOf h file next
-unfolding afterCounts
+pub terms-done : (g h : Grid) (file : List ℕ) (at next : ℕ) (run : Run) → run ≡ fillOf (Done at) Terms file terms .run → run ≡ Done next → h ≡ termedOf g (fillOf (Done at) Terms file terms .values) → afterDensity g file at ≡ bodyOf h file next
+unfolding afterDensity
 terms-done g h file at next run e d s = let f = fillOf (Done at) Terms file terms in after-done (f .run) next (bodyOf (termedOf g (f .values)) file) (sym e ∙ d) ∙ ap (λ k. bodyOf k file next) (sym s)
+
+-- what follows the counts, by the run over δ and the weights
+pub density-refused : (g : Grid) (file : List ℕ) (at : ℕ) (run : Run) (r : Refusal) → run ≡ fillOf (Done at) Density file density .run → run ≡ Refused r → afterCounts g file at ≡ refusing r
+unfolding afterCounts
+density-refused g file at run r e h = after-refused (fillOf (Done at) Density file density .run) r _ (sym e ∙ h)
+
+module _ (g h : Grid) (file : List ℕ) (at next : ℕ) (run : Run) (told : run ≡ fillOf (Done at) Density file density .run) (done : run ≡ Done next) (same : h ≡ weighedOf g (fillOf (Done at) Density file density .values)) where
+  density-done : afterCounts g file at ≡ judging (unless 4 (densityHolds h)) (afterDensity h file next)
+  unfolding afterCounts
+  density-done =
+      let f = fillOf (Done at) Density file density in
+      let more : Grid → ℕ → Read = λ k next. judging (unless 4 (densityHolds k)) (afterDensity k file next) in
+      after-done (f .run) next (more (weighedOf g (f .values))) (sym told ∙ done) ∙ ap (λ k. more k next) (sym same)
+
+  -- 4 where they are out of range, and otherwise what follows them
+  pub density-fails : densityHolds h ≡ false → afterCounts g file at ≡ refusing (refusal 4 0)
+  density-fails e = density-done ∙ judging-stays (refusal 4 0) (unless 4 (densityHolds h)) (afterDensity h file next) (rw e refl) (omega arith)
+
+  pub density-passes : densityHolds h ≡ true → afterCounts g file at ≡ afterDensity h file next
+  density-passes e = density-done ∙ judging-goes-on none (unless 4 (densityHolds h)) (afterDensity h file next) (rw e refl) refl
 
 -- the whole file, by the run over the counts
 module _ (file : List ℕ) (columns rows slots : List ℤ) (run : Run) (told : run ≡ fillOf (Done 0) Counts file counts .run) where
@@ -234,13 +293,13 @@ body-none g file at e =
     )
 
 -- terms within their ends pass 4
-terms-hold : (g : Grid) (v : List ℤ) → Within Terms terms v → T (termsHold (termedOf g v))
-terms-hold g v w = termed-terms (termedOf g v) (termed-within g v w)
+terms-hold : (g : Grid) (v : List ℤ) → T (densityHolds g) → Within Terms terms v → T (termsHold (termedOf g v))
+terms-hold g v t w = termed-terms (termedOf g v) (termed-within g v t w)
 
--- the terms change nothing that 3 and 7 ask for
-termed-shape : (g : Grid) (v columns rows slots : List ℤ) → shapeOf (caseOf (termedOf g v) columns rows slots) ≡ shapeOf (caseOf g columns rows slots)
-unfolding shapeOf termedOf countsHold roomHolds
-termed-shape g v columns rows slots = refl
+-- a test that refuses nothing holds
+unless-none : (n : ℕ) (b : Bool) → 1 ≤ n → unless n b .number ≡ 0 → T b
+unless-none n true h e = tt
+unless-none n false h e = absurd (omega (arith, e))
 
 -- what a file that is not refused tells: a record that passes 3 and 7 with the lent slices, and 4; a body that was read to its end and passes 9 and 10; and that
 -- these are the answer
@@ -256,7 +315,7 @@ pub record Unrefused (file : List ℕ) (columns rows slots : List ℤ) : Type 0 
 
 -- the law that it does
 pub unrefused : (file : List ℕ) (columns rows slots : List ℤ) → readingOf file columns rows slots .answer .refusal .number ≡ 0 → Unrefused file columns rows slots
-unfolding readingOf afterCounts
+unfolding readingOf afterCounts afterDensity
 unrefused file columns rows slots e =
     let head = fillOf (Done 0) Counts file counts in
     let g = countedOf (head .values) in
@@ -266,21 +325,29 @@ unrefused file columns rows slots e =
     let at = counted .0 in
     let to-shape = after-done (head .run) at more (counted .1) in
     let room = judging-none shape (afterCounts g file at) (rw to-shape at e) in
-    let tail = fillOf (Done at) Terms file terms in
-    let whole = termedOf g (tail .values) in
-    let ran = after-none (tail .run) (bodyOf whole file) (fill-of-numbered (Done at) Terms file terms (done-numbered at)) (rw (to-shape ∙ room .1) at e) in
-    let to-body = after-done (tail .run) (ran .0) (bodyOf whole file) (ran .1) in
-    let body = body-none whole file (ran .0) (rw (to-shape ∙ room .1 ∙ to-body) at e) in
+    let middle = fillOf (Done at) Density file density in
+    let h = weighedOf g (middle .values) in
+    let pair = unless 4 (densityHolds h) in
+    let later : ℕ → Read = λ at. judging pair (afterDensity h file at) in
+    let weighed = after-none (middle .run) later (fill-of-numbered (Done at) Density file density (done-numbered at)) (rw (to-shape ∙ room .1) at e) in
+    let from = weighed .0 in
+    let to-pair = to-shape ∙ room .1 ∙ after-done (middle .run) from later (weighed .1) in
+    let paired = judging-none pair (afterDensity h file from) (rw to-pair at e) in
+    let tail = fillOf (Done from) Terms file terms in
+    let whole = termedOf h (tail .values) in
+    let ran = after-none (tail .run) (bodyOf whole file) (fill-of-numbered (Done from) Terms file terms (done-numbered from)) (rw (to-pair ∙ paired .1) at e) in
+    let to-body = to-pair ∙ paired .1 ∙ after-done (tail .run) (ran .0) (bodyOf whole file) (ran .1) in
+    let body = body-none whole file (ran .0) (rw to-body at e) in
     let done = body-done whole file (ran .0) (body .0) in
     record {
       grid = whole;
       from = ran .0;
       next = done .0;
-      shape = rw (termed-shape g (tail .values) columns rows slots) (room .0);
-      termed = terms-hold g (tail .values) (fill-within Terms terms-sent file (Done at) terms (ran .0) (ran .1));
+      shape = rw (termed-shape h (tail .values) columns rows slots ∙ weighed-shape g (middle .values) columns rows slots) (room .0);
+      termed = terms-hold h (tail .values) (unless-none 4 (densityHolds h) (omega arith) (paired .0)) (fill-within Terms terms-sent file (Done from) terms (ran .0) (ran .1));
       done = done .1;
       limits = body .1 .0;
-      is = to-shape ∙ room .1 ∙ to-body ∙ body .1 .1;
+      is = to-body ∙ body .1 .1;
     }
 
 -- a body that was read to its end passes all checks of slices, where its record passes 3 and 4, and it 9 and 10
@@ -371,16 +438,20 @@ module _ (Holds : Read → Type 0) (accepts : (c : Case) → Holds (giving c)) (
 
   -- and of the whole file
   pub read-holds : (file : List ℕ) (columns rows slots : List ℤ) → Holds (readingOf file columns rows slots)
-  unfolding readingOf afterCounts
+  unfolding readingOf afterCounts afterDensity
   read-holds file columns rows slots =
       let head = fillOf (Done 0) Counts file counts in
       let g = countedOf (head .values) in
       let c = caseOf g columns rows slots in
       after-holds (head .run) (λ at. judging (firstRefusal (shapeOf c)) (afterCounts g file at)) (run-listed 0 Counts counts)
       (λ at. judging-holds (firstRefusal (shapeOf c)) (afterCounts g file at) (shape-most c)
-      (let tail = fillOf (Done at) Terms file terms in
-      let whole = termedOf g (tail .values) in
-      after-holds (tail .run) (bodyOf whole file) (run-listed at Terms terms) (body-holds whole file)))
+      (let middle = fillOf (Done at) Density file density in
+      let h = weighedOf g (middle .values) in
+      after-holds (middle .run) (λ from. judging (unless 4 (densityHolds h)) (afterDensity h file from)) (run-listed at Density density)
+      (λ from. judging-holds (unless 4 (densityHolds h)) (afterDensity h file from) (unless-most 4 (densityHolds h) (omega arith))
+      (let tail = fillOf (Done from) Terms file terms in
+      let whole = termedOf h (tail .values) in
+      after-holds (tail .run) (bodyOf whole file) (run-listed from Terms terms) (body-holds whole file)))))
     where
       run-listed : (at : ℕ) (part : Part) (total : ℕ) → Telling Listed (fillOf (Done at) part file total .run)
       run-listed at part total = fill-of-telling Listed early-listed (Done at) part file total (done-telling Listed at)

@@ -1,15 +1,17 @@
 -- A case file, read whole (document 01, "The case file"): "Order: columns, rows, layers, δ, flag, step, tolerance, column widths, row widths, then per block ..".
+-- Document 02, W-209: "A δ of 0 in the case now means that two more numbers follow".
 use mathlib.Core.List.{List, [], _∷_}
 use Prim.Native.Nat.{ℕ}
 use lib.IntN.{natAbs, pos, ℤ}
 use lib.ListN.{getD}
 use Rattle.grid.specs.declared.Grid.{Grid}
+use Rattle.grid.specs.Judging.{densityHolds}
 use Rattle.grid.specs.Place.{blocksOf}
-use Rattle.grid.specs.Record.{counts, noGrid, onlyCounts, recordOf, terms}
+use Rattle.grid.specs.Record.{counts, density, noGrid, onlyCounts, recordOf, terms}
 use Rattle.slices.specs.declared.Refusal.{Refusal}
-use Rattle.slices.specs.Slices.{Case, caseOf, firstRefusal, none, shapeOf, unlessRefused}
+use Rattle.slices.specs.Slices.{Case, caseOf, firstRefusal, none, shapeOf, unless, unlessRefused}
 use Rattle.wellformed.specs.Limits.{limitsOf}
-use Rattle.fields.specs.declared.Part.the-variants.{Counts, Terms, Widths}
+use Rattle.fields.specs.declared.Part.the-variants.{Counts, Density, Terms, Widths}
 use Rattle.fields.specs.declared.runs.Run.{Run}
 use Rattle.fields.specs.declared.runs.Run.the-variants.{Done, Refused}
 use Rattle.fields.specs.Runs.{Filled, blocksFrom, endingOf, fillOf}
@@ -43,9 +45,13 @@ giving c = record { answer = record { refusal = none; grid = c .grid }; columns 
 unfoldable pub countedOf : List ℤ → Grid
 countedOf v = onlyCounts (natAbs (getD v 0 (pos 0))) (natAbs (getD v 1 (pos 0))) (natAbs (getD v 2 (pos 0)))
 
--- "δ, flag, step, tolerance": the record with its terms
+-- δ and the two weights, "zero when δ is whole": the record with these
+unfoldable pub weighedOf : Grid → List ℤ → Grid
+weighedOf g v = recordOf (g .columns) (g .rows) (g .layers) (getD v 0 (pos 0)) (getD v 1 (pos 0)) (getD v 2 (pos 0)) (g .flag) (g .step) (g .tolerance)
+
+-- "flag, step, tolerance": the record with its terms
 unfoldable pub termedOf : Grid → List ℤ → Grid
-termedOf g v = recordOf (g .columns) (g .rows) (g .layers) (getD v 0 (pos 0)) (natAbs (getD v 1 (pos 0))) (getD v 2 (pos 0)) (getD v 3 (pos 0))
+termedOf g v = recordOf (g .columns) (g .rows) (g .layers) (g .delta) (g .«fresh_weight») (g .«salt_weight») (natAbs (getD v 0 (pos 0))) (getD v 1 (pos 0)) (getD v 2 (pos 0))
 
 -- "column widths, row widths, then per block": each part from where the one before it ended
 abbrev pub columnsFrom : Grid → List ℕ → ℕ → Filled
@@ -69,9 +75,17 @@ endChecks g file at = endingOf (slotsFrom g file at .run) file ∷ limitsOf (cas
 unfoldable pub bodyOf : Grid → List ℕ → ℕ → Read
 bodyOf g file at = judging (firstRefusal (endChecks g file at)) (giving (caseFrom g file at))
 
--- what follows the counts: "δ, flag, step, tolerance", and then the rest
+-- what follows δ and the weights: "flag, step, tolerance", and then the rest
+unfoldable pub afterDensity : Grid → List ℕ → ℕ → Read
+afterDensity g file at = let f = fillOf (Done at) Terms file terms in after (f .run) (bodyOf (termedOf g (f .values)) file)
+
+-- what follows the counts: δ and the weights number by number, and "4 for a weight or pair out of range .., judged right after δ". Each weight that was sent is
+-- in range by then, so that it is their pair that 4 refuses here
 unfoldable pub afterCounts : Grid → List ℕ → ℕ → Read
-afterCounts g file at = let f = fillOf (Done at) Terms file terms in after (f .run) (bodyOf (termedOf g (f .values)) file)
+afterCounts g file at =
+    let f = fillOf (Done at) Density file density in
+    let weighed = weighedOf g (f .values) in
+    after (f .run) (λ next. judging (unless 4 (densityHolds weighed)) (afterDensity weighed file next))
 
 -- the whole file: "3 for the total, then 7, come straight after layers". Of the lent slices only their lengths are asked.
 unfoldable pub readingOf : List ℕ → List ℤ → List ℤ → List ℤ → Read

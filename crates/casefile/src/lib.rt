@@ -3,13 +3,15 @@ ghost use mathlib.Core.Path.{_≡_};
 ghost use Prim.Native.Nat.{_≤_};
 ghost use lib.ListN.{length};
 ghost use Rattle.whole.specs.Lent.{over};
+ghost use lib.Dec.{T};
 ghost use Rattle.grid.specs.Inner.{Counted, Termed};
-ghost use Rattle.grid.specs.Record.{counts, terms};
+ghost use Rattle.grid.specs.Judging.{densityHolds};
+ghost use Rattle.grid.specs.Record.{counts, density, terms};
 ghost use Rattle.slices.specs.Slices.{caseOf};
 ghost use Rattle.slices.specs.Inner.{Judged, Roomy};
 ghost use Rattle.fields.specs.declared.Part.the-variants.{Counts, Terms};
 ghost use Rattle.fields.specs.Inner.{Within};
-ghost use Rattle.casefile.specs.Reading.{refusing, countedOf, termedOf, bodyOf, afterCounts, readingOf};
+ghost use Rattle.casefile.specs.Reading.{refusing, countedOf, weighedOf, termedOf, bodyOf, afterDensity, afterCounts, readingOf};
 ghost use Rattle.casefile.specs.Inner.{storedOf};
 use fields::MOST_SLOTS;
 use fields::Part;
@@ -18,9 +20,11 @@ use fields::runs::ending;
 use fields::runs::fill;
 use fields::runs::fill_blocks;
 use grid::COUNTS;
+use grid::DENSITY;
 use grid::Grid;
 use grid::NO_GRID;
 use grid::TERMS;
+use grid::judging::density_holds;
 use grid::place::blocks;
 use grid::units::MOST_ACROSS;
 use slices::Refusal;
@@ -58,21 +62,29 @@ fn counted(values: &[i64]) -> Grid
     g
 }
 
+// The record of a case with δ and the two weights. Inner: there are as many.
+fn weighed(g: Grid, values: &[i64]) -> Grid
+    requires { ⌜ density ≤ length (now values) ⌝ }
+    ensures { λ r. ⌜ r ≡ weighedOf g (now (values .entry)) ⌝ }
+{
+    let mut h = g;
+    h.delta = values[0];
+    h.fresh_weight = values[1];
+    h.salt_weight = values[2];
+    h
+}
+
 // The record of a case with its terms. Inner: they are within their ends.
 fn termed(g: Grid, values: &[i64]) -> Grid
     requires { ⌜ terms ≤ length (now values) ⌝ }
     requires { ⌜ Within Terms terms (now values) ⌝ }
     ensures { λ r. ⌜ r ≡ termedOf g (now (values .entry)) ⌝ }
 {
-    Grid {
-        columns: g.columns,
-        rows: g.rows,
-        layers: g.layers,
-        delta: values[0],
-        flag: values[1] as u64,
-        step: values[2],
-        tolerance: values[3],
-    }
+    let mut h = g;
+    h.flag = values[0] as u64;
+    h.step = values[1];
+    h.tolerance = values[2];
+    h
 }
 
 // "9, 10", and the numbers of a case that neither refuses over the front of the lent slices. Inner: 3, 7, 4, 5 and 6 do not refuse the case, and the
@@ -153,8 +165,32 @@ fn read_body(
     )
 }
 
-// What follows the counts. Inner: they are in range and the lent slices have room.
+// What follows δ and the weights. Inner: they and the counts are in range, and the lent slices have room.
 fn read_terms(
+    file: &[u8],
+    at: usize,
+    g: Grid,
+    columns: &mut [i64],
+    rows: &mut [i64],
+    slots: &mut [i64],
+) -> Answer
+    requires { ⌜ Counted g × T (densityHolds g) ⌝ }
+    requires { ⌜ Roomy (caseOf g (now columns) (now rows) (now slots)) ⌝ }
+    ensures answer { λ r. ⌜ r ≡ afterDensity g (now (file .entry)) at .answer ⌝ }
+    ensures columns { λ _. ⌜ now (columns .exit) ≡ over (afterDensity g (now (file .entry)) at .columns) (now (columns .entry)) ⌝ }
+    ensures rows { λ _. ⌜ now (rows .exit) ≡ over (afterDensity g (now (file .entry)) at .rows) (now (rows .entry)) ⌝ }
+    ensures slots { λ _. ⌜ now (slots .exit) ≡ over (afterDensity g (now (file .entry)) at .slots) (now (slots .entry)) ⌝ }
+{
+    let mut terms = [0i64; TERMS];
+    let start = Run::Done { next: at };
+    match fill(file, start, Part::Terms, TERMS, &mut terms) {
+        Run::Refused { refusal } => refused(refusal),
+        Run::Done { next } => read_body(file, next, termed(g, &terms), columns, rows, slots),
+    }
+}
+
+// What follows the counts: δ and the weights, and "4 for a weight or pair out of range". Inner: the counts are in range and the lent slices have room.
+fn read_density(
     file: &[u8],
     at: usize,
     g: Grid,
@@ -169,11 +205,20 @@ fn read_terms(
     ensures rows { λ _. ⌜ now (rows .exit) ≡ over (afterCounts g (now (file .entry)) at .rows) (now (rows .entry)) ⌝ }
     ensures slots { λ _. ⌜ now (slots .exit) ≡ over (afterCounts g (now (file .entry)) at .slots) (now (slots .entry)) ⌝ }
 {
-    let mut terms = [0i64; TERMS];
+    let mut weights = [0i64; DENSITY];
     let start = Run::Done { next: at };
-    match fill(file, start, Part::Terms, TERMS, &mut terms) {
+    match fill(file, start, Part::Density, DENSITY, &mut weights) {
         Run::Refused { refusal } => refused(refusal),
-        Run::Done { next } => read_body(file, next, termed(g, &terms), columns, rows, slots),
+        Run::Done { next } => {
+            let h = weighed(g, &weights);
+            if !density_holds(h) {
+                return refused(Refusal {
+                    number: 4,
+                    block: 0,
+                });
+            }
+            read_terms(file, next, h, columns, rows, slots)
+        }
     }
 }
 
@@ -201,7 +246,7 @@ pub fn read_case(file: &[u8], columns: &mut [i64], rows: &mut [i64], slots: &mut
             if refusal.number != 0 {
                 return refused(refusal);
             }
-            read_terms(file, next, g, columns, rows, slots)
+            read_density(file, next, g, columns, rows, slots)
         }
     }
 }

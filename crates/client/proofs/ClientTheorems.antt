@@ -40,6 +40,8 @@ record-comes-back g rest =
       rows = count-back (g .rows) i;
       layers = count-back (g .layers) i;
       delta = g .delta;
+      «fresh_weight» = g .«fresh_weight»;
+      «salt_weight» = g .«salt_weight»;
       flag = flag-back (g .flag) i;
       step = g .step;
       tolerance = g .tolerance;
@@ -104,7 +106,7 @@ count-below-zero row columns rows slots h k l e = check-long row columns rows sl
     go (suc (suc (suc k))) l e counted = omega (arith, l)
 
 -- A flag below zero is refused with 4, where 3 and 7 do not come first.
-pub flag-below-zero : (row columns rows slots : List ℤ) → recordNumbers ≤ length row → firstRefusal (shapeOf (caseOf (gridOf row) columns rows slots)) ≡ none → ltZ (getD row 4 (pos 0)) (pos 0) ≡ true →
+pub flag-below-zero : (row columns rows slots : List ℤ) → recordNumbers ≤ length row → firstRefusal (shapeOf (caseOf (gridOf row) columns rows slots)) ≡ none → ltZ (getD row 6 (pos 0)) (pos 0) ≡ true →
     checkHanded row columns rows slots true ≡ refusal 4 0
 unfolding gridOf
-flag-below-zero row columns rows slots h shaped e = check-long row columns rows slots true h ∙ lent-reaches (caseOf (gridOf row) columns rows slots) ∙ untermed (caseOf (gridOf row) columns rows slots) shaped (λ termed. not-flagged (getD row 4 (pos 0)) e (termed .flag))
+flag-below-zero row columns rows slots h shaped e = check-long row columns rows slots true h ∙ lent-reaches (caseOf (gridOf row) columns rows slots) ∙ untermed (caseOf (gridOf row) columns rows slots) shaped (λ termed. not-flagged (getD row 6 (pos 0)) e (termed .flag))

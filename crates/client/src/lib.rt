@@ -1,7 +1,8 @@
 // The functions for other languages (docs/CLIENT.md): numbers and slices cross, a slice as a pointer and a length. A function answers with the number of a
 // refusal, 0 for none, and writes the block that it names, counted from 1 and 0 for none, to `block`. What was asked for goes over the front of a lent
 // slice, and a refusal changes no slice. A record that is too short is refused with 7 before all else, and a slice that is too short for the answer with 7 in
-// 7's place. A record is columns, rows, layers, δ, flag, step in days, tolerance in litres a day; `columns` and `rows` are the widths in metres.
+// 7's place. A record is columns, rows, layers, δ, fresh and salt weight in grams a litre, flag, step in days, tolerance in litres a day; `columns` and
+// `rows` are the widths in metres.
 ghost use mathlib.Core.Bool.{true};
 ghost use mathlib.Core.Path.{_≡_};
 ghost use lib.IntN.{pos};

@@ -24,7 +24,7 @@ use Rattle.budget.specs.Answers.{marksReach, refusing, zoneOfCase}
 use Rattle.casefile.specs.Reading.{Read, readingOf}
 use Rattle.casefile.specs.Reading.{refusing as unread}
 
--- ---- the record of a case as a row of numbers: "columns, rows, layers, δ, flag, step, tolerance"
+-- ---- the record of a case as a row of numbers: "columns, rows, layers, δ, flag, step, tolerance", with the two weights of document 02, W-209, after δ
 
 -- a count, "1..=64 each; 1..=8"; below zero it is out of range, as 0 is, so that 3 refuses it
 abbrev pub countIn : ℤ → ℕ
@@ -35,13 +35,13 @@ abbrev pub flagIn : ℤ → ℕ
 flagIn z = cond (ltZ z (pos 0)) 2 (natAbs z)
 
 unfoldable pub gridOf : List ℤ → Grid
-gridOf row = recordOf (countIn (at 0)) (countIn (at 1)) (countIn (at 2)) (at 3) (flagIn (at 4)) (at 5) (at 6)
+gridOf row = recordOf (countIn (at 0)) (countIn (at 1)) (countIn (at 2)) (at 3) (at 4) (at 5) (flagIn (at 6)) (at 7) (at 8)
   where
     at : ℕ → ℤ
     at place = getD row place (pos 0)
 
 abbrev pub numbersOfGrid : Grid → List ℤ
-numbersOfGrid g = pos (g .columns) ∷ pos (g .rows) ∷ pos (g .layers) ∷ g .delta ∷ pos (g .flag) ∷ g .step ∷ g .tolerance ∷ []
+numbersOfGrid g = pos (g .columns) ∷ pos (g .rows) ∷ pos (g .layers) ∷ g .delta ∷ g .«fresh_weight» ∷ g .«salt_weight» ∷ pos (g .flag) ∷ g .step ∷ g .tolerance ∷ []
 
 -- ---- answers as rows of numbers
 

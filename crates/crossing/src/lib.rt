@@ -50,9 +50,11 @@ pub fn grid_of(record: &[i64]) -> Grid
         rows: count_of(record[1]),
         layers: count_of(record[2]),
         delta: record[3],
-        flag: flag_of(record[4]),
-        step: record[5],
-        tolerance: record[6],
+        fresh_weight: record[4],
+        salt_weight: record[5],
+        flag: flag_of(record[6]),
+        step: record[7],
+        tolerance: record[8],
     }
 }
 
@@ -67,6 +69,8 @@ fn numbers_of_grid(g: Grid) -> [i64; RECORD_NUMBERS]
         g.rows as i64,
         g.layers as i64,
         g.delta,
+        g.fresh_weight,
+        g.salt_weight,
         g.flag as i64,
         g.step,
         g.tolerance,

@@ -32,7 +32,7 @@ use Rattle.slices.specs.Slices.{refusal}
 use Rattle.fields.specs.declared.Got.{Got}
 use Rattle.fields.specs.declared.Got.the-variants.{Value}
 use Rattle.fields.specs.declared.Part.{Part}
-use Rattle.fields.specs.declared.Part.the-variants.{Counts, Slots, Terms, Widths}
+use Rattle.fields.specs.declared.Part.the-variants.{Counts, Density, Slots, Terms, Widths}
 use Rattle.fields.specs.declared.runs.Run.{Run}
 use Rattle.fields.specs.declared.runs.Run.the-variants.{Done, Refused}
 use Rattle.fields.specs.Inner.{Within}
@@ -107,6 +107,7 @@ module _ (Tells : ℕ → Type 0) (early : Early Tells) where
   part-tells : (part : Part) → Tells (partRefusal part .number)
   unfolding partRefusal
   part-tells Counts = early 3 (omega arith) (omega arith)
+  part-tells Density = early 4 (omega arith) (omega arith)
   part-tells Terms = early 4 (omega arith) (omega arith)
   part-tells Widths = early 5 (omega arith) (omega arith)
   part-tells (Slots block) = early 6 (omega arith) (omega arith)

@@ -8,10 +8,11 @@ use lib.ListN.{getD, length}
 use lib.Signed.{ltZ}
 use Rattle.whole.specs.declared.ranges.Range.{Range}
 use Rattle.whole.specs.Ranges.{between, inRange}
+use Rattle.whole.specs.Whole.{isZero}
 use Rattle.numbers.specs.declared.Number.{Number}
 use Rattle.numbers.specs.Numbers.{numberAt, signedOf}
-use Rattle.grid.specs.Record.{counts}
-use Rattle.grid.specs.Units.{mostAcross, mostDelta, mostLayers, mostStep, mostTolerance}
+use Rattle.grid.specs.Record.{counts, density}
+use Rattle.grid.specs.Units.{leastFreshWeight, leastSaltWeight, mostAcross, mostDelta, mostFreshWeight, mostLayers, mostSaltWeight, mostStep, mostTolerance}
 use Rattle.slots.specs.Ranges.{rangeOf}
 use Rattle.slots.specs.Rules.{isOpen}
 use Rattle.slots.specs.Slots.{isActive, slotsAt}
@@ -20,17 +21,20 @@ use Rattle.slices.specs.Slices.{mostWidth, refusal}
 use Rattle.fields.specs.declared.Got.{Got}
 use Rattle.fields.specs.declared.Got.the-variants.{Refused, Value}
 use Rattle.fields.specs.declared.Part.{Part}
-use Rattle.fields.specs.declared.Part.the-variants.{Counts, Slots, Terms, Widths}
+use Rattle.fields.specs.declared.Part.the-variants.{Counts, Density, Slots, Terms, Widths}
 use Rattle.numbers.specs.declared.Number.the-variants as number
 
 -- "columns, rows; layers | 1..=64 each; 1..=8", "δ, whole | 1..=100", "water-table flag | 0, 1", "time step, days | 1..=36,525", "tolerance, litres/day |
--- 0..=1,000,000,000", in the order "columns, rows, layers, δ, flag, step, tolerance"
+-- 0..=1,000,000,000", in the order "columns, rows, layers, δ, flag, step, tolerance". Document 02, W-209: "A δ of 0 in the case now means that two more numbers
+-- follow: fresh weight 990..=1,010 and salt weight 1,011..=1,050", in grams a litre
 abbrev pub recordRanges : List Range
 recordRanges =
     between (pos 1) (pos mostAcross)
     ∷ between (pos 1) (pos mostAcross)
     ∷ between (pos 1) (pos mostLayers)
-    ∷ between (pos 1) (pos mostDelta)
+    ∷ between (pos 0) (pos mostDelta)
+    ∷ between (pos leastFreshWeight) (pos mostFreshWeight)
+    ∷ between (pos leastSaltWeight) (pos mostSaltWeight)
     ∷ between (pos 0) (pos 1)
     ∷ between (pos 1) (pos mostStep)
     ∷ between (pos 0) (pos mostTolerance)
@@ -58,9 +62,14 @@ slotSent done =
     (cond (isBoundarySlot (length done)) (isOpen (slotsAt done)) true)
     false)
 
+-- W-209: "A δ of 0 in the case now means that two more numbers follow": whether δ or the next weight is sent, after those so far
+unfoldable pub weightSent : List ℤ → Bool
+weightSent done = cond (eqb (length done) 0) true (isZero (getD done 0 (pos 0)))
+
 -- whether the next number of a part is sent, after those so far
 unfoldable pub isSent : Part → List ℤ → Bool
 isSent Counts done = true
+isSent Density done = weightSent done
 isSent Terms done = true
 isSent Widths done = true
 isSent (Slots block) done = slotSent done
@@ -68,14 +77,16 @@ isSent (Slots block) done = slotSent done
 -- the ends of a number of a part, counted from 0; "for a slot its ends from the fixed table"
 unfoldable pub endsOf : Part → ℕ → Range
 endsOf Counts n = recordRange n
-endsOf Terms n = recordRange (counts + n)
+endsOf Density n = recordRange (counts + n)
+endsOf Terms n = recordRange (counts + density + n)
 endsOf Widths n = between (pos 1) (pos mostWidth)
 endsOf (Slots block) n = rangeOf n
 
--- 3: "a count or the block total is out of range"; 4: "δ, flag, step or tolerance is out of range"; 5: "a width is out of range"; 6: "a slot is out of range". "Refusals 6, 9, 10, 13
--- and 14 name the first block at fault"; "Others name 0."
+-- 3: "a count or the block total is out of range"; 4: "δ, flag, step or tolerance is out of range", and W-209: "4 for a weight or pair out of range"; 5: "a width
+-- is out of range"; 6: "a slot is out of range". "Refusals 6, 9, 10, 13 and 14 name the first block at fault"; "Others name 0."
 unfoldable pub partRefusal : Part → Refusal
 partRefusal Counts = refusal 3 0
+partRefusal Density = refusal 4 0
 partRefusal Terms = refusal 4 0
 partRefusal Widths = refusal 5 0
 partRefusal (Slots block) = refusal 6 block

@@ -5,13 +5,18 @@ ghost use mathlib.Core.Path.{_≡_};
 ghost use Prim.Native.Nat.{_≤_, _<_, _^_};
 ghost use lib.ListN.{length};
 ghost use Rattle.numbers.specs.Numbers.{numberAt};
-ghost use Rattle.fields.specs.Fields.{mostSlots, recordRange, isBoundarySlot, slotSent, isSent, endsOf, partRefusal, meantOf, judgedIn, numberJudged, fieldAt};
+ghost use Rattle.fields.specs.Fields.{mostSlots, recordRange, isBoundarySlot, slotSent, weightSent, isSent, endsOf, partRefusal, meantOf, judgedIn, numberJudged, fieldAt};
 use grid::COUNTS;
+use grid::DENSITY;
 use grid::RECORD_NUMBERS;
+use grid::units::LEAST_FRESH_WEIGHT;
+use grid::units::LEAST_SALT_WEIGHT;
 use grid::units::MOST_ACROSS;
 use grid::units::MOST_BLOCKS;
 use grid::units::MOST_DELTA;
+use grid::units::MOST_FRESH_WEIGHT;
 use grid::units::MOST_LAYERS;
+use grid::units::MOST_SALT_WEIGHT;
 use grid::units::MOST_STEP;
 use grid::units::MOST_TOLERANCE;
 use numbers::Number;
@@ -22,13 +27,15 @@ use slices::WIDTHS;
 use slots::ranges::range_of;
 use slots::rules::OPEN_KINDS;
 use slots::units::SLOTS_EACH;
+use whole::is_zero;
 use whole::ranges::Range;
 use whole::ranges::in_range;
 
-// The parts of a file whose numbers are judged alike: the counts, the terms, the widths, and the slots of a block, which is
-// counted from 1.
+// The parts of a file whose numbers are judged alike: the counts, δ with the two weights, the terms, the widths, and the slots of a
+// block, which is counted from 1.
 pub enum Part {
     Counts,
+    Density,
     Terms,
     Widths,
     Slots { block: usize },
@@ -43,7 +50,7 @@ pub enum Got {
 // The slots of the most blocks: more than any part of a file has.
 pub const MOST_SLOTS: usize = SLOTS_EACH * MOST_BLOCKS;
 
-// The ends of the numbers of a case's record: "columns, rows, layers, δ, flag, step, tolerance".
+// The ends of the numbers of a case's record: columns, rows, layers, δ, fresh weight, salt weight, flag, step, tolerance.
 const RECORD_RANGES: [Range; RECORD_NUMBERS] = [
     // columns
     Range {
@@ -60,10 +67,20 @@ const RECORD_RANGES: [Range; RECORD_NUMBERS] = [
         lower: 1,
         upper: MOST_LAYERS as i64,
     },
-    // δ
+    // δ, or 0 where the two weights follow
     Range {
-        lower: 1,
+        lower: 0,
         upper: MOST_DELTA,
+    },
+    // fresh weight, grams a litre
+    Range {
+        lower: LEAST_FRESH_WEIGHT,
+        upper: MOST_FRESH_WEIGHT,
+    },
+    // salt weight, grams a litre
+    Range {
+        lower: LEAST_SALT_WEIGHT,
+        upper: MOST_SALT_WEIGHT,
     },
     // water-table flag
     Range { lower: 0, upper: 1 },
@@ -115,12 +132,24 @@ fn slot_sent(done: &[i64]) -> bool
     false
 }
 
+// Whether δ or the next weight is sent, after those so far: "A δ of 0 in the case now means that two more numbers follow".
+fn weight_sent(done: &[i64]) -> bool
+    ensures { λ r. ⌜ r ≡ weightSent (now (done .entry)) ⌝ }
+{
+    if done.len() == 0 {
+        return true;
+    }
+    let delta = done[0];
+    is_zero(delta)
+}
+
 // Whether the next number of a part is sent, after those so far. One that is not sent is 0.
 fn is_sent(part: Part, done: &[i64]) -> bool
     ensures { λ r. ⌜ r ≡ isSent part (now (done .entry)) ⌝ }
 {
     match part {
         Part::Counts => true,
+        Part::Density => weight_sent(done),
         Part::Terms => true,
         Part::Widths => true,
         Part::Slots { block: _ } => slot_sent(done),
@@ -134,7 +163,8 @@ fn ends_of(part: Part, n: usize) -> Range
 {
     match part {
         Part::Counts => record_range(n),
-        Part::Terms => record_range(COUNTS + n),
+        Part::Density => record_range(COUNTS + n),
+        Part::Terms => record_range(COUNTS + DENSITY + n),
         Part::Widths => WIDTHS,
         Part::Slots { block: _ } => range_of(n),
     }
@@ -147,6 +177,10 @@ fn part_refusal(part: Part) -> Refusal
     match part {
         Part::Counts => Refusal {
             number: 3,
+            block: 0,
+        },
+        Part::Density => Refusal {
+            number: 4,
             block: 0,
         },
         Part::Terms => Refusal {

@@ -15,6 +15,22 @@ mostBlocks = 512
 abbrev pub mostDelta : ℕ
 mostDelta = 100
 
+-- document 02, W-209: "fresh weight 990..=1,010 and salt weight 1,011..=1,050, at least 5 apart", in grams a litre
+abbrev pub leastFreshWeight : ℕ
+leastFreshWeight = 990
+
+abbrev pub mostFreshWeight : ℕ
+mostFreshWeight = 1010
+
+abbrev pub leastSaltWeight : ℕ
+leastSaltWeight = 1011
+
+abbrev pub mostSaltWeight : ℕ
+mostSaltWeight = 1050
+
+abbrev pub leastApart : ℕ
+leastApart = 5
+
 -- "time step, days | 1..=36,525"
 abbrev pub mostStep : ℕ
 mostStep = 36525

@@ -11,6 +11,18 @@ pub const MOST_BLOCKS: usize = 512;
 
 // δ, whole.
 pub const MOST_DELTA: i64 = 100;
+
+// Weights of the two waters, grams a litre, and how far they are apart (document 02, W-209).
+pub const LEAST_FRESH_WEIGHT: i64 = 990;
+
+pub const MOST_FRESH_WEIGHT: i64 = 1_010;
+
+pub const LEAST_SALT_WEIGHT: i64 = 1_011;
+
+pub const MOST_SALT_WEIGHT: i64 = 1_050;
+
+pub const LEAST_APART: i64 = 5;
+
 // Days.
 pub const MOST_STEP: i64 = 36_525;
 // Litres a day.

@@ -23,7 +23,7 @@ use Rattle.flow.specs.Litres.{litresOf}
 
 -- "δ 40", "over 30 days", and the water-table flag of a row
 abbrev pub gridWith : ℕ → Grid
-gridWith flag = recordOf 1 1 1 (pos 40) flag (pos 30) (pos 5)
+gridWith flag = recordOf 1 1 1 (pos 40) (pos 0) (pos 0) flag (pos 30) (pos 5)
 
 -- "Base -204,800, thickness 245,760, δ 40, salt head 0 for a to c." "Porosity 200", and the fresh head and the pumpage of a row
 abbrev pub blockWith : ℤ → ℤ → Block

@@ -10,7 +10,7 @@ use Rattle.whole.specs.Ranges.{inRange, allWithin}
 use Rattle.grid.specs.declared.Grid.{Grid}
 use Rattle.grid.specs.Place.{placeOf, topOf}
 use Rattle.grid.specs.Record.{recordOf}
-use Rattle.grid.specs.Judging.{countsHold, termsHold}
+use Rattle.grid.specs.Judging.{countsHold, densityHolds, termsHold}
 use Rattle.slots.specs.Ranges.{rangeOf, endsHold}
 use Rattle.slots.specs.Slots.{slotsAt}
 use Rattle.slots.specs.Rules.{allZero, screenWithin, screensHold, layerHolds, boundaryHolds, rulesHold, slotsHold}
@@ -18,7 +18,7 @@ use Rattle.slices.specs.Slices.{Case, caseOf, none, refusal, orElse, fir
 use Rattle.slices.specs.Inner.{judgedOf}
 
 abbrev pub sized : ℕ → ℕ → ℕ → Grid
-sized columns rows layers = recordOf columns rows layers (pos 40) 0 (pos 30) (pos 5)
+sized columns rows layers = recordOf columns rows layers (pos 40) (pos 0) (pos 0) 0 (pos 30) (pos 5)
 
 -- 64 x 8 x 1 blocks are refused neither with 3 nor, in slices that are long enough, with 7
 pub blocks-512-pass : (columns rows slots : List ℤ) → 64 ≤ length columns → 8 ≤ length rows → 8192 ≤ length slots → firstRefusal (shapeOf (caseOf (sized 64 8 1) columns rows slots)) ≡ none
@@ -40,5 +40,5 @@ printedCase =
 
 -- it is refused with none of the five: what `Judged` asks can be met
 pub printed-case-passes : judgedOf printedCase ≡ none
-unfolding every firstOf inRange allWithin placeOf topOf rangeOf endsHold slotsAt screenWithin screensHold layerHolds boundaryHolds rulesHold allZero slotsHold countsHold termsHold orElse firstRefusal roomHolds widthsHold faultOf shapeOf contentsOf
+unfolding every firstOf inRange allWithin placeOf topOf rangeOf endsHold slotsAt screenWithin screensHold layerHolds boundaryHolds rulesHold allZero slotsHold countsHold densityHolds termsHold orElse firstRefusal roomHolds widthsHold faultOf shapeOf contentsOf
 printed-case-passes = refl

@@ -13,6 +13,7 @@ use super::Block;
 use super::ranges::ends_hold;
 use super::slots_at;
 use super::units::SLOTS_EACH;
+use whole::both_zero;
 use whole::ranges::Range;
 use whole::ranges::all_within;
 use whole::ranges::in_range;
@@ -29,16 +30,6 @@ fn all_zero(part: &[i64]) -> bool
     ensures { λ r. ⌜ r ≡ allZero (now (part .entry)) ⌝ }
 {
     all_within(part, SLOTS_EACH, ZERO)
-}
-
-// Whether both are 0.
-fn both_zero(a: i64, b: i64) -> bool
-    ensures { λ r. ⌜ r ≡ (isZero a && isZero b) ⌝ }
-{
-    if whole::is_zero(a) {
-        return whole::is_zero(b);
-    }
-    false
 }
 
 // "base ≤ bottom < top ≤ aquifer top", in ticks.

@@ -96,13 +96,15 @@ pub fn fill(fd: i32, numbers: &mut [i64]) {
     }
 }
 
-// The record of a stored case whose columns have been read: "columns, rows, layers, δ, flag, step, tolerance".
+// The record of a stored case whose columns have been read: columns, rows, layers, δ, fresh weight, salt weight, flag, step, tolerance.
 pub fn record_after(fd: i32, columns: u64) -> Grid {
     Grid {
         columns: columns as usize,
         rows: word_or_zero(fd) as usize,
         layers: word_or_zero(fd) as usize,
         delta: signed(word_or_zero(fd)),
+        fresh_weight: signed(word_or_zero(fd)),
+        salt_weight: signed(word_or_zero(fd)),
         flag: word_or_zero(fd),
         step: signed(word_or_zero(fd)),
         tolerance: signed(word_or_zero(fd)),

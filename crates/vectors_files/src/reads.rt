@@ -20,13 +20,15 @@ use stored::next_word;
 // What every lent number is before a read. No file can hold it.
 const UNREAD: i64 = -9_000_000_000;
 
-// The record of a case: "columns, rows, layers, δ, flag, step, tolerance".
+// The record of a case: columns, rows, layers, δ, fresh weight, salt weight, flag, step, tolerance.
 fn print_grid(g: Grid) {
     io::write_all(STDOUT_FILENO, b"read");
     print_number(g.columns as u64);
     print_number(g.rows as u64);
     print_number(g.layers as u64);
     print_signed(g.delta);
+    print_signed(g.fresh_weight);
+    print_signed(g.salt_weight);
     print_number(g.flag);
     print_signed(g.step);
     print_signed(g.tolerance);

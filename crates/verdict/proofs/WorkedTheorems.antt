@@ -6,6 +6,7 @@ use Rattle.whole.specs.Search.{firstOf, mostOf}
 use Rattle.whole.specs.Sum.{back, count, sum}
 use Rattle.whole.specs.Whole.{clampOf}
 use Rattle.grid.specs.Place.{behindOf, hasNext, hasPrevious, neighbourOf, nextOf, placeOf, topOf}
+use Rattle.grid.specs.Weights.{weightsOf}
 use Rattle.slots.specs.Slots.{slotsAt}
 use Rattle.slices.proofs.WorkedTheorems.{printedCase}
 use Rattle.block.specs.Density.{freshEquivalentOf, interfaceOf, saltKOf, seaHeadOf}
@@ -27,5 +28,5 @@ use Rattle.verdict.specs.Places.{countedAt, failsAt, freeAt, freeSizeOf,
 use Rattle.verdict.specs.Ruling.{byBalance, concerning, countOf, firstPlace, largestOf, verdictBy, verdictOf}
 
 pub printed-verdict : verdictOf printedCase ≡ record { code = 0; block = 0; count = 0; largest = pos 4 }
-unfolding firstOf mostOf count isDry dryAt movedAt freeAt failsAt countedAt freeSizeOf firstPlace countOf largestOf concerning byBalance verdictBy verdictOf inRange sum back clampOf placeOf topOf hasNext hasPrevious nextOf neighbourOf behindOf slotsAt interfaceOf saltKOf freshEquivalentOf seaHeadOf aquiferTopOf hasWaterTable saturatedTopOf heldOf levelsOf thicknessesOf volumeOf storageOf lengthWithin lengthsOf freshShareOf sharesOf belowTop rechargeOf boundaryHeadOf exchangeOf exchangedAs gainOf boundaryOf faceKOf conductanceOf tipOf faceThicknessOf faceConductanceOf lateralOf uppermostOf lowermostOf differenceOf leakageOf litresOf leavingOf overAreaOf liveOf areaAt levelsAt watersOf booksOf broughtOf sideOf tipBehindOf lateralAt leakageAt namedOf pumpedAt storageAt ownOf fixedOf throughOf flowsOf balanceIn balanceOf
+unfolding firstOf mostOf count isDry dryAt movedAt freeAt failsAt countedAt freeSizeOf firstPlace countOf largestOf concerning byBalance verdictBy verdictOf inRange sum back clampOf placeOf topOf hasNext hasPrevious nextOf neighbourOf behindOf slotsAt weightsOf interfaceOf saltKOf freshEquivalentOf seaHeadOf aquiferTopOf hasWaterTable saturatedTopOf heldOf levelsOf thicknessesOf volumeOf storageOf lengthWithin lengthsOf freshShareOf sharesOf belowTop rechargeOf boundaryHeadOf exchangeOf exchangedAs gainOf boundaryOf faceKOf conductanceOf tipOf faceThicknessOf faceConductanceOf lateralOf uppermostOf lowermostOf differenceOf leakageOf litresOf leavingOf overAreaOf liveOf areaAt levelsAt watersOf booksOf broughtOf sideOf tipBehindOf lateralAt leakageAt namedOf pumpedAt storageAt ownOf fixedOf throughOf flowsOf balanceIn balanceOf
 printed-verdict = refl

@@ -4,6 +4,7 @@ use mathlib.Core.Path.{_∙_, _≡_, ap, refl}
 use Rattle.whole.specs.Ranges.{inRange}
 use Rattle.whole.specs.Search.{firstOf}
 use Rattle.grid.specs.Place.{hasNext, nextOf, placeOf}
+use Rattle.grid.specs.Weights.{weightsOf}
 use Rattle.slots.specs.Slots.{slotsAt}
 use Rattle.slices.specs.Slices.{contentsOf, firstRefusal, none, orElse, shapeOf}
 use Rattle.slices.specs.Inner.{judgedOf}
@@ -20,7 +21,7 @@ use Rattle.wellformed.specs.Widths.{areaAt}
 use Rattle.wellformed.proofs.LimitsLaws.{checked-stands}
 
 limits-hold : firstRefusal (limitsOf printedCase) ≡ none
-unfolding firstOf inRange placeOf slotsAt orElse firstRefusal hasNext nextOf aquiferTopOf saltKOf overAreaOf faceKOf conductanceOf areaAt liveOf overlaps greatestOf eitherExceeds faceExceeds aboveExceeds boundaryExceeds blockExceeds atFault firstAtFault limitsOf
+unfolding firstOf inRange placeOf slotsAt orElse firstRefusal hasNext nextOf aquiferTopOf weightsOf saltKOf overAreaOf faceKOf conductanceOf areaAt liveOf overlaps greatestOf eitherExceeds faceExceeds aboveExceeds boundaryExceeds blockExceeds atFault firstAtFault limitsOf
 limits-hold = refl
 
 pub printed-case-stands : WellFormed printedCase

@@ -183,6 +183,12 @@ read-back z h = toZ-ofZ w64 z (record { sfits = h })
 pub answer : {z v : ℤ} → mag z < 2 ^ 63 → z ≡ v → toZ w64 (ofZ w64 z) ≡ v
 answer {z} h e = read-back z h ∙ e
 
+-- a difference of two numbers in ranges, as the machine works it out
+pub subtracted : {l h a m n b : ℤ} → In l h a → In m n b → T (ok l h) → T (ok m n) → T (ok (l -ℤ n) (h -ℤ m)) → toZ w64 (ofZ w64 (toZ w64 (ofZ w64 a) -ℤ toZ w64 (ofZ w64 b))) ≡ a -ℤ b
+subtracted {a = a} {b = b} i j s t u =
+    ap₂ (λ x y. toZ w64 (ofZ w64 (x -ℤ y))) (read i s) (read j t)
+    ∙ toZ-ofZ w64 (a -ℤ b) (fits (b-sub a b (leaf i) (leaf j)) u)
+
 -- a number with its sign turned, as the machine works it out
 pub negated : {l h z v : ℤ} → z ≡ v → In l h v → T (ok l h) → T (ok (negℤ h) (negℤ l)) → toZ w64 (ofZ w64 (pos 0 -ℤ toZ w64 (ofZ w64 z))) ≡ negℤ v
 negated {l} {h} {z} {v} e i s t =

@@ -4,6 +4,7 @@ pub mod nearest;
 pub mod ranges;
 
 ghost use mathlib.Core.Path.{_≡_};
+ghost use mathlib.Core.Bool.{_&&_};
 ghost use lib.IntN.{pos};
 ghost use lib.Signed.{_≤ℤ_};
 ghost use Rattle.whole.specs.Inner.{In, Abs, mostRounded};
@@ -50,6 +51,16 @@ pub fn is_zero(a: i64) -> bool
     ensures { λ r. ⌜ r ≡ isZero a ⌝ }
 {
     if a < 0 { false } else { a < 1 }
+}
+
+// Whether both numbers are 0.
+pub fn both_zero(a: i64, b: i64) -> bool
+    ensures { λ r. ⌜ r ≡ (isZero a && isZero b) ⌝ }
+{
+    if is_zero(a) {
+        return is_zero(b);
+    }
+    false
 }
 
 // The lesser of the two.

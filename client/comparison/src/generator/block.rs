@@ -43,19 +43,19 @@ fn new_heads(dice: &mut Dice, style: &Style, base: i64, top: i64, distance: usiz
         Heads::Still { fresh, salt } => [fresh, salt],
         Heads::Wedge { interface, rise, fresh } => {
             let fresh = fresh + dice.from(-3, 3);
-            heads_with(dice, style.delta, interface + rise * distance as i64, fresh)
+            heads_with(dice, style, interface + rise * distance as i64, fresh)
         }
         Heads::Rough => {
             // A fresh head far from a deep block drives water through the layers.
             let [low, high] = if dice.one_in(2) { [base, top] } else { [style.bottom, style.top] };
             let (interface, fresh) = (near(dice, base, top), near(dice, low, high));
-            heads_with(dice, style.delta, interface, fresh)
+            heads_with(dice, style, interface, fresh)
         }
         Heads::Ends => [end(dice), end(dice)],
         Heads::Gentle { fresh } => {
             let interface = if dice.one_in(4) { near(dice, base, top) } else { base - dice.from(0, 5_000) };
             let fresh = fresh + dice.from(-3, 3) * style.unit;
-            heads_with(dice, style.delta, interface, fresh)
+            heads_with(dice, style, interface, fresh)
         }
     }
 }
@@ -73,10 +73,11 @@ fn end(dice: &mut Dice) -> i64 {
 }
 
 /// Heads whose interface and fresh head are near these: one of the two is exactly met, unless a head would be out of range. With m = Φf -
-/// Φs the interface is Φs - δm, so that Φf = ζ + (1+δ)m.
-fn heads_with(dice: &mut Dice, delta: i64, interface: i64, fresh: i64) -> [i64; 2] {
-    let m = (fresh - interface).div_euclid(1 + delta);
-    let fresh = if dice.one_in(2) { fresh } else { interface + (1 + delta) * m };
+/// Φs and weights f and s the interface is floor(Φf - sm/(s-f)), so that Φf = ζ + ceil(sm/(s-f)).
+fn heads_with(dice: &mut Dice, style: &Style, interface: i64, fresh: i64) -> [i64; 2] {
+    let [light, heavy] = style.weights();
+    let m = ((fresh - interface) * (heavy - light)).div_euclid(heavy);
+    let fresh = if dice.one_in(2) { fresh } else { interface + ceil(heavy * m, heavy - light) };
     [fresh, fresh - m].map(|head| head.clamp(-LEVEL, LEVEL))
 }
 
@@ -140,7 +141,12 @@ fn stage(dice: &mut Dice, head: i64) -> i64 {
     }
 }
 
-/// A floor, often one at which the sea's head, the depth over δ, is about the block's own: the fresh head, or the salt one in fresh water at
+/// The least whole number that is not below a quotient.
+fn ceil(dividend: i64, divisor: i64) -> i64 {
+    -(-dividend).div_euclid(divisor)
+}
+
+/// A floor, often one at which the sea's head, floor(depth (s-f)/f), is about the block's own: the fresh head, or the salt one in fresh water at
 /// the block's top. Then the sea brings or takes little or nothing.
 fn sea_floor(dice: &mut Dice, style: &Style, [fresh, salt]: [i64; 2], top: i64) -> i64 {
     match dice.below(9) {
@@ -149,10 +155,10 @@ fn sea_floor(dice: &mut Dice, style: &Style, [fresh, salt]: [i64; 2], top: i64) 
         2 => -dice.from(0, 200),
         3..=5 => -dice.from(0, 400_000),
         _ => {
-            let delta = style.delta;
-            let own = dice.pick(&[fresh, ((delta + 1) * salt - top).div_euclid(delta)]);
+            let [light, heavy] = style.weights();
+            let own = dice.pick(&[fresh, (heavy * salt - (heavy - light) * top).div_euclid(light)]);
             let apart = dice.pick(&[3, 300]);
-            (-delta * on_unit(own + dice.from(-apart, apart), style)).clamp(-LEVEL, 0)
+            (-ceil(light * on_unit(own + dice.from(-apart, apart), style), heavy - light)).clamp(-LEVEL, 0)
         }
     }
 }

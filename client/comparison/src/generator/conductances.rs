@@ -47,25 +47,25 @@ struct Face {
 }
 
 /// Widths, a K and the least thickness with which C = floor(2 · Ks · B · W / ((L1 + L2) · 4,096)) is not below what is wanted.
-fn rolled_face(dice: &mut Dice, delta: i64, wanted: i64) -> Face {
+fn rolled_face(dice: &mut Dice, [light, heavy]: [i64; 2], wanted: i64) -> Face {
     let (lengths, across) = ([dice.from(1, 200), dice.from(1, 200)], dice.from(1, OF_WIDTH.1));
     let divisor = (lengths[0] + lengths[1]) * 4_096;
     let salt_k = wanted * divisor / (2 * across * dice.from(LEVEL / 4, LEVEL));
-    let k = (salt_k * delta / (delta + 1)).clamp(1, K);
-    let factor = 2 * (k * (delta + 1) / delta) * across;
+    let k = (salt_k * light / heavy).clamp(1, K);
+    let factor = 2 * (k * heavy / light) * across;
     let thickness = ((wanted * divisor - 1) / factor + 1).min(LEVEL);
     Face { lengths, across, k, thickness, conductance: factor * thickness / divisor }
 }
 
 fn lateral_met(dice: &mut Dice, wanted: i64) -> Slices {
     let mut case = bare_grid(dice, [2, 1, 1]);
-    let delta = case.record[place::DELTA];
-    let mut face = rolled_face(dice, delta, wanted);
+    let weights = case.weights();
+    let mut face = rolled_face(dice, weights, wanted);
     for _ in 0..TRIES {
         if face.conductance == wanted {
             break;
         }
-        face = rolled_face(dice, delta, wanted);
+        face = rolled_face(dice, weights, wanted);
     }
     (case.columns, case.rows) = (face.lengths.to_vec(), vec![face.across]);
     for block in [1, 2] {

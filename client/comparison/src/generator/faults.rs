@@ -9,7 +9,7 @@ use super::ranges::{K, LEAKANCE, LEVEL, OF_RECORD, OF_WIDTH};
 use super::shapes;
 use crate::dice::Dice;
 use crate::input::Asked;
-use crate::slices::{place, Slices, SLOTS};
+use crate::slices::{place, Slices, RECORD, SLOTS};
 use crate::FILL;
 
 /// A case with some damages.
@@ -43,7 +43,7 @@ pub fn damage(dice: &mut Dice, case: &mut Slices, marks: &mut Vec<i64>) {
 /// Slices of wild numbers alone, some beside a record in range.
 pub fn wild(dice: &mut Dice) -> Asked {
     let mut wild = |most: usize| -> Vec<i64> { (0..dice.below(most)).map(|_| dice.wild()).collect() };
-    let mut case = Slices { record: wild(9), columns: wild(4), rows: wild(4), slots: wild(70) };
+    let mut case = Slices { record: wild(RECORD + 2), columns: wild(4), rows: wild(4), slots: wild(70) };
     if dice.one_in(2) {
         case.record = Slices::printed().record;
     }
@@ -95,7 +95,7 @@ fn count(dice: &mut Dice, asked: &mut Asked) {
 }
 
 fn term(dice: &mut Dice, asked: &mut Asked) {
-    let index = dice.pick(&[place::DELTA, place::FLAG, place::STEP, place::TOLERANCE]);
+    let index = dice.pick(&[place::DELTA, place::FRESH_WEIGHT, place::SALT_WEIGHT, place::FLAG, place::STEP, place::TOLERANCE]);
     let (low, high) = OF_RECORD[index];
     set(&mut asked.case.record, index, dice.pick(&[low - 1, high + 1]));
 }

@@ -6,11 +6,11 @@ use super::asked::room;
 use super::conductances::conductance_met;
 use super::faults::{break_rule, damage, several};
 use super::grid::grid;
-use super::limits::{ends_met, tops_met};
+use super::limits::{ends_met, tops_met, weights_met};
 use super::shapes;
 use crate::dice::Dice;
 use crate::input::{File, Input, READ};
-use crate::slices::{file_of, put, Slices, SLOTS};
+use crate::slices::{file_of, place, put, Slices, RECORD, SLOTS};
 
 /// The file of a case.
 pub fn whole(dice: &mut Dice) -> Input {
@@ -130,6 +130,15 @@ pub fn refused(dice: &mut Dice) -> Input {
     if dice.one_in(3) {
         (0..=dice.below(3)).for_each(|_| bytes.push(dice.roll() as u8));
     }
+    lent(dice, &case, bytes)
+}
+
+/// The file of a case whose weights are at their limits, whole or cut after some number of its record, so that what follows them is missing.
+pub fn weights(dice: &mut Dice) -> Input {
+    let case = weights_met(dice);
+    let numbers = case.numbers();
+    let kept = if dice.one_in(2) { numbers.len() } else { place::DELTA + dice.below(RECORD + 1 - place::DELTA) };
+    let bytes = file_of(&numbers[..kept.min(numbers.len())]);
     lent(dice, &case, bytes)
 }
 

@@ -22,7 +22,7 @@ fn grid_of(dice: &mut Dice, [columns, rows, layers]: Shape, style_of: fn(&mut Di
     let mut case = Slices::empty(columns, rows, layers);
     (case.columns, case.rows) = (widths(dice, columns), widths(dice, rows));
     let style = style_of(dice, &case);
-    case.record[place::DELTA] = style.delta;
+    case.record[place::DELTA..=place::SALT_WEIGHT].copy_from_slice(&style.density);
     case.record[place::FLAG] = style.flag;
     case.record[place::STEP] = step(dice);
     case.record[place::TOLERANCE] = tolerance(dice);

@@ -5,7 +5,7 @@ use caydubeesh::{raw, slot};
 
 use super::asked::active;
 use super::grid::{gentle_grid, grid};
-use super::ranges::{LEVEL, OF_RECORD, OF_SLOT, OF_WIDTH, TOLERANCE};
+use super::ranges::{APART, LEVEL, OF_RECORD, OF_SLOT, OF_WEIGHTS, OF_WIDTH, TOLERANCE};
 use super::shapes::{self, Shape};
 use crate::dice::Dice;
 use crate::slices::{place, Slices, SLOTS};
@@ -100,6 +100,23 @@ pub fn end_met(dice: &mut Dice, case: &mut Slices) {
         _ => (&mut case.slots, OF_SLOT[index % SLOTS]),
     };
     numbers[index] = dice.pick(&[low, high, low - 1, high + 1]);
+}
+
+/// Weights at their ends or one beyond them, as near as may be or one nearer, beside a δ of 0 and sometimes a whole one; or a δ of 0 without
+/// weights.
+pub fn weights_met(dice: &mut Dice) -> Slices {
+    let shape = shapes::small(dice);
+    let mut case = grid(dice, shape);
+    let [(light, fresh_most), (salt_least, heavy)] = OF_WEIGHTS;
+    let fresh = dice.pick(&[light - 1, light, 1_000, salt_least - APART, fresh_most, fresh_most + 1]);
+    let salt = dice.pick(&[salt_least - 1, salt_least, fresh + APART - 1, fresh + APART, heavy, heavy + 1]);
+    let weights = dice.pick(&[[fresh, salt], [fresh, salt], [fresh, salt], [0, 0], [fresh, 0], [0, salt]]);
+    let delta = dice.pick(&[0, 0, 0, 0, 1, 40, 100]);
+    case = case.with_density([delta, weights[0], weights[1]]);
+    if dice.one_in(4) {
+        case.record[place::FLAG] = 2;
+    }
+    case
 }
 
 /// A well whose screen is at an end of the aquifer, one tick beyond it, or has no length; or a screen without a well.

@@ -1,8 +1,8 @@
 //! What the blocks of one case have in common.
 
-use super::ranges::{CONDUCTANCE, K, LEAKANCE, LEVEL};
+use super::ranges::{APART, CONDUCTANCE, K, LEAKANCE, LEVEL, OF_WEIGHTS};
 use crate::dice::Dice;
-use crate::slices::{place, Slices};
+use crate::slices::{place, weights_of, Slices};
 
 /// In ticks.
 const HALF_A_METRE: i64 = 2_048;
@@ -10,7 +10,8 @@ const HALF_A_METRE: i64 = 2_048;
 /// What the blocks of one case have in common.
 pub struct Style {
     pub layers: usize,
-    pub delta: i64,
+    /// δ, fresh weight and salt weight, as the record has them.
+    pub density: [i64; 3],
     pub flag: i64,
     pub heads: Heads,
     /// New heads, and those of rivers and of many seas, are multiples of so many ticks.
@@ -52,7 +53,7 @@ pub enum Heads {
 /// The style of a case whose counts and widths are set.
 pub fn style_of(dice: &mut Dice, case: &Slices) -> Style {
     let layers = case.record[place::LAYERS] as usize;
-    let delta = delta(dice);
+    let density = density(dice);
     let most_thickness = if layers == 1 { LEVEL } else { LEVEL / (layers as i64 - 1) };
     let thickness = dice.pick(&[2, 5_000, 60_000, 100_000, 245_760, most_thickness]).min(most_thickness);
     let bottom = bottom(dice, thickness, layers as i64);
@@ -60,7 +61,7 @@ pub fn style_of(dice: &mut Dice, case: &Slices) -> Style {
     let most_k = most_k(dice, case, thickness);
     Style {
         layers,
-        delta,
+        density,
         flag: dice.from(0, 1),
         heads: heads_of_case(dice, bottom, top, thickness),
         unit: 1,
@@ -98,12 +99,42 @@ pub fn gentle_style_of(dice: &mut Dice, case: &Slices) -> Style {
     }
 }
 
-fn delta(dice: &mut Dice) -> i64 {
-    if dice.one_in(2) {
-        dice.pick(&[1, 2, 40, 99, 100])
-    } else {
-        dice.from(1, 100)
+impl Style {
+    /// The weights of fresh and of salt water.
+    pub fn weights(&self) -> [i64; 2] {
+        weights_of(self.density)
     }
+}
+
+/// δ alone, or two weights after a δ of 0.
+fn density(dice: &mut Dice) -> [i64; 3] {
+    match dice.below(6) {
+        0 | 1 => {
+            let [fresh, salt] = weights(dice);
+            [0, fresh, salt]
+        }
+        2 | 3 => [dice.pick(&[1, 2, 40, 99, 100]), 0, 0],
+        _ => [dice.from(1, 100), 0, 0],
+    }
+}
+
+/// Two weights in range, mostly at its ends or as near to one another as can be.
+fn weights(dice: &mut Dice) -> [i64; 2] {
+    let [(light, fresh_most), (salt_least, heavy)] = OF_WEIGHTS;
+    let fresh = match dice.below(4) {
+        0 => light,
+        1 => fresh_most,
+        2 => 1_000,
+        _ => dice.from(light, fresh_most),
+    };
+    let nearest = salt_least.max(fresh + APART);
+    let salt = match dice.below(4) {
+        0 => nearest,
+        1 => heavy,
+        2 => 1_023,
+        _ => dice.from(nearest, heavy),
+    };
+    [fresh, salt]
 }
 
 /// A lowest base that leaves room for all layers: mostly so that they lie about sea level, else at an end of the range.

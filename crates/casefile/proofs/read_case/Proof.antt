@@ -46,8 +46,8 @@ returns c =
     let e = judging-stays (c .before .before .before .shape .result) (firstRefusal (shapeOf (caseGiven (c .before .before .before .before .before .before .before)))) (afterCounts (c .before .before .before .before .before .before .before .counted .result) (c .before .before .before .before .before .before .before .before .before .before .before .before .before .before .before .before .args .file .now) (c .before .before .before .before .before .before .before .before .before .before .next .given .0 .0)) (c .before .before .before .shape .ensures) (c .before .if1 .taken) in
     rw (whole (c .before .before .before .before .before .before .before) ∙ e) (c .refused2 .ensures, (refl, (refl, refl)))
 
-read-terms-requires : tie.Need-read-terms-requires
-read-terms-requires c κs = let h = shape-stands (caseOf (c .before .before .before .before .before .before .before .before .before .counted .result) (c .before .before .before .before .before .before .before .before .before .before .before .before .before .before .before .before .before .before .args .columns .now) (c .before .before .before .before .before .before .before .before .before .before .before .before .before .before .before .before .before .before .args .rows .now) (c .before .before .before .before .before .before .before .before .before .before .before .before .before .before .before .before .before .before .args .slots .now)) (rw (← c .before .before .before .before .before .shape .ensures) (c .before .before .before .if1 .left)) in h
+read-density-requires : tie.Need-read-density-requires
+read-density-requires c κs = let h = shape-stands (caseOf (c .before .before .before .before .before .before .before .before .before .counted .result) (c .before .before .before .before .before .before .before .before .before .before .before .before .before .before .before .before .before .before .args .columns .now) (c .before .before .before .before .before .before .before .before .before .before .before .before .before .before .before .before .before .before .args .rows .now) (c .before .before .before .before .before .before .before .before .before .before .before .before .before .before .before .before .before .before .args .slots .now)) (rw (← c .before .before .before .before .before .shape .ensures) (c .before .before .before .if1 .left)) in h
 
 returns-2 : tie.Need-returns-2
 returns-2 c =
@@ -57,7 +57,7 @@ returns-2 c =
 returns-3 : tie.Need-returns-3
 returns-3 c =
     let e = judging-goes-on (c .before .before .before .before .before .before .before .before .before .shape .result) (firstRefusal (shapeOf (caseGiven (c .before .before .before .before .before .before .before .before .before .before .before .before .before)))) (afterCounts (c .before .before .before .before .before .before .before .before .before .before .before .before .before .counted .result) (c .before .before .before .before .before .before .before .before .before .before .before .before .before .before .before .before .before .before .before .before .before .before .args .file .now) (c .before .before .before .before .before .before .before .before .before .before .before .before .before .before .before .before .next .given .0 .0)) (c .before .before .before .before .before .before .before .before .before .shape .ensures) (c .before .before .before .before .before .before .before .if1 .left) in
-    rw (whole (c .before .before .before .before .before .before .before .before .before .before .before .before .before) ∙ e) (c .before .before .before .read-terms .ensures)
+    rw (whole (c .before .before .before .before .before .before .before .before .before .before .before .before .before) ∙ e) (c .before .before .before .read-density .ensures)
 
 pub read-case-spec : {M : Type 1} → statement M
 read-case-spec =
@@ -76,7 +76,7 @@ read-case-spec =
     (λ c. search needs)
     (λ c. search needs)
     returns
-    read-terms-requires
+    read-density-requires
     returns-2
     (λ c. search needs)
     (λ c. search needs)

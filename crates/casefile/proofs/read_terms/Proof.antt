@@ -40,7 +40,7 @@ read-body-requires c κs =
     let a = s .args in
     let v = fillOf (Done (a .at)) Terms (a .file .now) terms .values in
     rw (record-read (c .before .before .before)) (
-      (termed-counted (a .g) v (s .pre .0), termed-within (a .g) v (ends (c .before .before .before .before .before .before .before .before .before) (c .before .before .before .before .before .before .next .given .0 .0) (c .before .before .before .before .before .before .next .given .1))),
+      (termed-counted (a .g) v (s .pre .0 .0), termed-within (a .g) v (s .pre .0 .1) (ends (c .before .before .before .before .before .before .before .before .before) (c .before .before .before .before .before .before .next .given .0 .0) (c .before .before .before .before .before .before .next .given .1))),
       termed-roomy (a .g) v (a .columns .now) (a .rows .now) (a .slots .now) (s .pre .1),
     )
 

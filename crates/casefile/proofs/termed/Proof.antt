@@ -12,28 +12,19 @@ use Rattle.casefile.specs.Reading.{termedOf}
 use Rattle.casefile.proofs.termed.Statement.{statement}
 use Rattle.casefile.proofs.termed.Tie as tie
 
-cast-flag : tie.Need-cast-t7
+cast-flag : tie.Need-cast-h
 unfolding endsOf recordRange
-cast-flag c = let h = number-in Terms terms (c .before .before .args .values .now) (c .before .before .pre .1) 1 (omega arith) in unsign-ok (no-less (leaf h) tt) (record { sfits = c .t6 .given })
+cast-flag c = let h = number-in Terms terms (c .before .args .values .now) (c .before .pre .1) 0 (omega arith) in unsign-ok (no-less (leaf h) tt) (record { sfits = c .h .given })
 
 returns : tie.Need-returns
 unfolding termedOf
 returns c =
-    let g = c .before .before .before .before .args .g in
-    let v = c .before .before .before .before .args .values .now in
-    λ i. recordOf (g .columns) (g .rows) (g .layers)
-    (read-back (getD v 0 (pos 0)) (c .before .before .before .t4 .given) i)
-    (natAbs (read-back (getD v 1 (pos 0)) (c .before .before .t6 .given) i))
-    (read-back (getD v 2 (pos 0)) (c .before .t9 .given) i)
-    (read-back (getD v 3 (pos 0)) (c .t11 .given) i)
+    let g = c .before .before .before .args .g in
+    let v = c .before .before .before .args .values .now in
+    λ i. recordOf (g .columns) (g .rows) (g .layers) (g .delta) (g .«fresh_weight») (g .«salt_weight»)
+    (natAbs (read-back (getD v 0 (pos 0)) (c .before .before .h .given) i))
+    (read-back (getD v 1 (pos 0)) (c .before .h2 .given) i)
+    (read-back (getD v 2 (pos 0)) (c .h3 .given) i)
 
 pub termed-spec : {M : Type 1} → statement M
-termed-spec =
-    tie.close
-    (tie.spec
-    (λ c. search needs)
-    (λ c. search needs)
-    cast-flag
-    (λ c. search needs)
-    (λ c. search needs)
-    returns)
+termed-spec = tie.close (tie.spec (λ c. search needs) cast-flag (λ c. search needs) (λ c. search needs) returns)

@@ -4,7 +4,7 @@ use native.Mathlib.Omega.{arith}
 use borrow.Author.Needs.{needs}
 use mir.Syntax.{w64}
 use mir.ValLaws.{toZ-pos}
-use Rattle.whole.proofs.RangeLaws.{read}
+use Rattle.whole.proofs.RangeLaws.{read, read-back}
 use Rattle.crossing.proofs.numbers_of_grid.Statement.{statement}
 use Rattle.crossing.proofs.numbers_of_grid.Tie as tie
 
@@ -16,7 +16,9 @@ returns c =
     λ i. toZ-pos w64 (g .columns) (omega (arith, counted .columns-most)) i
     ∷ toZ-pos w64 (g .rows) (omega (arith, counted .rows-most)) i
     ∷ toZ-pos w64 (g .layers) (omega (arith, counted .layers-most)) i
-    ∷ read (termed .delta) tt i
+    ∷ read-back (g .delta) (c .struct-told .given .1 .1 .1 .0 .1) i
+    ∷ read-back (g .«fresh_weight») (c .struct-told .given .1 .1 .1 .1 .0 .1) i
+    ∷ read-back (g .«salt_weight») (c .struct-told .given .1 .1 .1 .1 .1 .0 .1) i
     ∷ toZ-pos w64 (g .flag) (omega (arith, termed .flag)) i
     ∷ read (termed .step) tt i
     ∷ read (termed .tolerance) tt i

@@ -16,11 +16,15 @@ returns-2 c = rw (c .before .enum-told2 .given .1) (c .record-range2 .ensures)
 
 returns-3 : tie.Need-returns-3
 unfolding endsOf
-returns-3 c = rw (c .enum-told3 .given .1) refl
+returns-3 c = rw (c .before .enum-told3 .given .1) (c .record-range3 .ensures)
 
 returns-4 : tie.Need-returns-4
 unfolding endsOf
-returns-4 c = rw (c .before .enum-told4 .given .1) (c .range-of .ensures)
+returns-4 c = rw (c .enum-told4 .given .1) refl
+
+returns-5 : tie.Need-returns-5
+unfolding endsOf
+returns-5 c = rw (c .before .enum-told5 .given .1) (c .range-of .ensures)
 
 pub ends-of-spec : {M : Type 1} → statement M
 ends-of-spec =
@@ -32,9 +36,14 @@ ends-of-spec =
     (λ c. omega arith)
     (λ c κs. search needs)
     (λ c. search needs)
+    (λ c. omega arith)
+    (λ c. omega arith)
+    (λ c κs. search needs)
+    (λ c. search needs)
     (λ c. search needs)
     (λ c κs. search needs)
     returns
     returns-2
     returns-3
-    returns-4)
+    returns-4
+    returns-5)

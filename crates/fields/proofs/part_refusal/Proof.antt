@@ -19,7 +19,11 @@ returns-3 c = rw (c .enum-told3 .given .1) refl
 
 returns-4 : tie.Need-returns-4
 unfolding partRefusal
-returns-4 c = rw (c .before .part .given .1) refl
+returns-4 c = rw (c .enum-told4 .given .1) refl
+
+returns-5 : tie.Need-returns-5
+unfolding partRefusal
+returns-5 c = rw (c .before .part .given .1) refl
 
 pub part-refusal-spec : {M : Type 1} → statement M
-part-refusal-spec = tie.close (tie.spec (λ c. search needs) (λ c. search needs) (λ c. search needs) (λ c. search needs) returns returns-2 returns-3 returns-4)
+part-refusal-spec = tie.close (tie.spec (λ c. search needs) (λ c. search needs) (λ c. search needs) (λ c. search needs) (λ c. search needs) returns returns-2 returns-3 returns-4 returns-5)

@@ -1,7 +1,7 @@
 -- `storage` meets its contract: two volumes of one block differ by what fits. Assumes nothing.
 use mathlib.Core.Path.{_∙_, _≡_}
 use borrow.Author.Needs.{needs}
-use Rattle.whole.proofs.RangeLaws.{Bounds, b-eq, b-is, exact, fits, ranges, read}
+use Rattle.whole.proofs.RangeLaws.{Bounds, b-eq, b-is, exact, fits, leaf, no-less, ranges, read}
 use Rattle.block.specs.Storage.{storageOf, volumeOf}
 use Rattle.block.proofs.BlockLaws.{volume-in}
 use Rattle.block.proofs.storage.storage.Statement.{statement}
@@ -28,9 +28,12 @@ sub-cut-div : tie.Need-sub-cut-div
 unfolding new-in old-in
 sub-cut-div c = fits (search (ranges, new-in (c .before), old-in c) depth 20) tt
 
+cut-div-requires : tie.Need-cut-div-requires
+cut-div-requires c κs = no-less (search (ranges, leaf (c .before .before .before .pre .0 .step)) depth 20) tt
+
 returns : tie.Need-returns
 unfolding storageOf new-in old-in
 returns c = exact (search (ranges, b-is (c .cut-div .ensures) (search (ranges, new-in (c .before .before .before), old-in (c .before .before)) depth 20)) depth 20)
 
 pub storage-spec : {M : Type 1} → statement M
-storage-spec = tie.close (tie.spec (λ c κs. search needs) (λ c κs. search needs) sub-cut-div (λ c κs. search needs) returns)
+storage-spec = tie.close (tie.spec (λ c κs. search needs) (λ c κs. search needs) sub-cut-div cut-div-requires returns)

@@ -2,9 +2,9 @@
 use mathlib.Core.Path.{_≡_, sym, ap, _∙_}
 use mir.Facts.{toZ-ofZ}
 use borrow.Author.Needs.{needs}
 use Rattle.whole.specs.Whole.{isZero}
-use Rattle.slots.proofs.rules.both_zero.Statement.{statement}
-use Rattle.slots.proofs.rules.both_zero.Tie as tie
+use Rattle.whole.proofs.both_zero.Statement.{statement}
+use Rattle.whole.proofs.both_zero.Tie as tie
 
 first : (c : tie.After-is-zero) → isZero (c .before .args .a) ≡ c .is-zero .result
 first c = sym (c .is-zero .ensures ∙ ap isZero (toZ-ofZ (c .before .fits .a)))
