@@ -16,7 +16,7 @@ use whole::clamp;
 
 // The levels that part a block's waters, ticks: salt water from the base to the interface Z, which is held, and fresh water from there to
 // the saturated top U.
-#[derive(Drop)]
+#[derive(Clone, Copy)]
 pub struct Levels {
     pub base: i64,
     pub interface: i64,

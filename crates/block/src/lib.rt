@@ -1,5 +1,7 @@
 // One block (document 01, "One block"; its wells are in "Leakage, river and sea"): the rules that read the weights of the waters, the levels
 // and thicknesses of both fluids, storage, and wells. Old and new heads go through the same functions.
+#![tactic(auto)]
+
 pub mod density;
 pub mod geometry;
 pub mod storage;
@@ -14,7 +16,7 @@ use slots::Block;
 use units::FRESH;
 
 // A number for each fluid: heads, thicknesses or lengths in ticks, shares of a well or balances in litres a day.
-#[derive(Drop)]
+#[derive(Clone, Copy)]
 pub struct Fluids {
     pub fresh: i64,
     pub salt: i64,

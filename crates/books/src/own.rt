@@ -32,7 +32,7 @@ use slots::{Block, load};
 use wellformed::widths::area;
 
 // A block's own terms in one fluid, litres a day: what recharge and boundary bring, what wells take, and what goes into storage.
-#[derive(Drop)]
+#[derive(Clone, Copy)]
 pub struct Own {
     pub recharge: i64,
     pub boundary: i64,

@@ -1,5 +1,7 @@
 // The water account of a zone (document 01, "Balance, verdict, table"): its table of two rows of nine lines, litres a day, and what it is
 // refused with.
+#![tactic(auto)]
+
 mod table;
 
 ghost use Rattle.std.specs.Prelude.{◌≡◌, ◌≤◌, ◌<◌, length};
@@ -26,7 +28,7 @@ use whole::ranges::{Range, all_within};
 
 // A refusal, or beside number 0 the table's eighteen lines: nine of fresh water and then nine of salt water, in the order "storage, edge in,
 // edge out, converted, wells, recharge, boundary, supply, error", litres a day. The lines beside a refusal are all 0.
-#[derive(Drop)]
+#[derive(Clone, Copy)]
 pub struct Answer {
     pub refusal: Refusal,
     pub lines: [i64; 18],

@@ -1,4 +1,6 @@
 // A case file, read into lent slices (document 01, "The case file"): "A file is judged number by number".
+#![tactic(auto)]
+
 ghost use Rattle.std.specs.Prelude.{◌≡◌, ◌≤◌, length, T};
 ghost use Rattle.whole.specs.Lent.{over};
 ghost use Rattle.grid.specs.Inner.{Counted, Termed};
@@ -23,7 +25,7 @@ use wellformed::judge_limits;
 use whole::lent::copy_front;
 
 // A refusal, or the record of a case beside number 0. The record beside a refusal is all 0.
-#[derive(Drop)]
+#[derive(Clone, Copy)]
 pub struct Answer {
     pub refusal: Refusal,
     pub grid: Grid,

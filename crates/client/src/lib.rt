@@ -3,6 +3,8 @@
 // slice, and a refusal changes no slice. A record that is too short is refused with 7 before all else, and a slice that is too short for the answer with 7 in
 // 7's place. A record is columns, rows, layers, δ, fresh and salt weight in grams a litre, flag, step in days, tolerance in litres a day; `columns` and
 // `rows` are the widths in metres.
+#![tactic(auto)]
+
 ghost use Rattle.std.specs.Prelude.{true, ◌≡◌, pos, length};
 ghost use Rattle.whole.specs.Lent.{over};
 ghost use Rattle.slots.specs.Units.{most_level};

@@ -1,5 +1,7 @@
 // What crosses to other languages: the record of a case as a row of numbers, and a refusal or an answer handed over. The functions that other languages
 // call are in `client`.
+#![tactic(auto)]
+
 pub mod handed;
 
 ghost use Rattle.std.specs.Prelude.{◌≡◌, ◌≤◌, length};

@@ -1,4 +1,6 @@
 // The numbers that a case file sends, one at a time (document 01, "The case file" and "Refusal numbers").
+#![tactic(auto)]
+
 pub mod runs;
 
 ghost use Rattle.std.specs.Prelude.{◌≡◌, ◌≤◌, ◌<◌, ◌^◌, length};
@@ -20,7 +22,7 @@ use whole::ranges::{Range, in_range};
 
 // The parts of a file whose numbers are judged alike: the counts, δ with the two weights, the terms, the widths, and the slots of a
 // block, which is counted from 1.
-#[derive(Drop)]
+#[derive(Clone, Copy)]
 pub enum Part {
     Counts,
     Density,
@@ -30,7 +32,7 @@ pub enum Part {
 }
 
 // A number that was read, and the place after it; or a refusal.
-#[derive(Drop)]
+#[derive(Clone, Copy)]
 pub enum Got {
     Value { value: i64, next: usize },
     Refused { refusal: Refusal },

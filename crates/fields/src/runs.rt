@@ -15,7 +15,7 @@ use slots::rules::slots_hold;
 use slots::units::SLOTS_EACH;
 
 // How a run ended: the place after its last number, or a refusal.
-#[derive(Drop)]
+#[derive(Clone, Copy)]
 pub enum Run {
     Done { next: usize },
     Refused { refusal: Refusal },

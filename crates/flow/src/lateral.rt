@@ -12,7 +12,7 @@ use block::units::TICKS;
 use whole::{floor_div, greatest, is_zero};
 
 // The widths at a face, metres: of the two blocks along the line, and across it.
-#[derive(Drop)]
+#[derive(Clone, Copy)]
 pub struct Face {
     pub low: i64,
     pub high: i64,
@@ -20,7 +20,7 @@ pub struct Face {
 }
 
 // One fluid in the block on one side of a face: its K in mm/day, its thickness and its head in ticks.
-#[derive(Drop)]
+#[derive(Clone, Copy)]
 pub struct Side {
     pub k: i64,
     pub thickness: i64,
@@ -29,7 +29,7 @@ pub struct Side {
 
 // The block behind a tip, away from the face: its width along the line in metres and the fluid's thickness there in ticks, which is 0 where
 // no active block is there.
-#[derive(Drop)]
+#[derive(Clone, Copy)]
 pub struct Behind {
     pub width: i64,
     pub thickness: i64,

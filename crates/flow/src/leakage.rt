@@ -15,7 +15,7 @@ use block::{Fluids, in_fluid, together};
 use grid::Grid;
 
 // What leakage sees of a block: the head and the thickness of each fluid, ticks.
-#[derive(Drop)]
+#[derive(Clone, Copy)]
 pub struct LeakageSide {
     pub heads: Fluids,
     pub thickness: Fluids,

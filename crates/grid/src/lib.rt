@@ -1,12 +1,14 @@
 // The grid of a case: its record with what that is refused with, 3 and 4, what its waters weigh, and where its blocks lie and which links join
 // them (document 01, "Units and ranges" and "Refusal numbers"; document 02, W-209).
+#![tactic(auto)]
+
 pub mod judging;
 pub mod place;
 pub mod units;
 pub mod weights;
 
 // The record of a case. It may hold any numbers: `judging` says which are refused.
-#[derive(Drop)]
+#[derive(Clone, Copy)]
 pub struct Grid {
     // How many columns, rows and layers the grid has.
     pub columns: usize,

@@ -8,7 +8,7 @@ use super::Grid;
 use super::units::ABOVE;
 
 // Column, row and layer, each counted from 0; layer 0 is the deepest.
-#[derive(Drop)]
+#[derive(Clone, Copy)]
 pub struct Place {
     pub column: usize,
     pub row: usize,
@@ -16,7 +16,7 @@ pub struct Place {
 }
 
 // The block across a link, if the link is there.
-#[derive(Drop)]
+#[derive(Clone, Copy)]
 pub enum Neighbour {
     At(usize),
     Outside,

@@ -7,7 +7,7 @@ use super::Grid;
 use whole::is_zero;
 
 // The weights of the two waters, both in one unit.
-#[derive(Drop)]
+#[derive(Clone, Copy)]
 pub struct Weights {
     pub fresh: i64,
     pub salt: i64,

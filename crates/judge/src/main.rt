@@ -1,4 +1,6 @@
 // The program: "The program reads standard input." It prints what `session` decides for the bytes that it read.
+#![tactic(auto)]
+
 use libc::STDIN_FILENO;
 use printing::print_session;
 use session::{MOST_FILE, session_of_file};

@@ -6,7 +6,7 @@ use super::{NONE, Taken, take_in, take_up_to};
 use slices::Refusal;
 
 // "none, river with stage in metres, sea with floor in metres, or one of the three fixed kinds"
-#[derive(Drop)]
+#[derive(Clone, Copy)]
 pub enum Boundary {
     None,
     River { stage: f64 },
@@ -17,7 +17,7 @@ pub enum Boundary {
 }
 
 // A refusal, or beside number 0 what goes into a block's kind slot and its level slot, ticks. Both are 0 beside a refusal.
-#[derive(Drop)]
+#[derive(Clone, Copy)]
 pub struct BoundarySlots {
     pub refusal: Refusal,
     pub kind: i64,

@@ -1,4 +1,6 @@
 // Metres (document 01, "Metres"): a tick, 1/4,096 m, is shown as a double, and a double is taken in as a tick.
+#![tactic(auto)]
+
 pub mod boundary;
 mod nearest;
 
@@ -13,14 +15,14 @@ use slots::units::MOST_LEVEL;
 use whole::ranges::{Range, in_range};
 
 // A refusal, or beside number 0 a tick in metres. The metres beside a refusal are 0.0.
-#[derive(Drop)]
+#[derive(Clone, Copy)]
 pub struct Shown {
     pub refusal: Refusal,
     pub metres: f64,
 }
 
 // A refusal, or beside number 0 the tick of a double. The tick beside a refusal is 0.
-#[derive(Drop)]
+#[derive(Clone, Copy)]
 pub struct Taken {
     pub refusal: Refusal,
     pub tick: i64,

@@ -1,11 +1,13 @@
 // Numbers of a case file (document 01, "The case file"): "Numbers in groups of seven bits, low group first, high bit set on all but the last byte,
 // at most five bytes, shortest form only."
+#![tactic(auto)]
+
 ghost use Rattle.std.specs.Prelude.{◌≡◌};
 ghost use Rattle.numbers.specs.Numbers.{number_at, signed_of};
 
 // What stands at a place of a file: a number and the place after it; or the file "ends where a byte is still needed"; or "a number is longer than its
 // shortest form, or a fifth byte has its high bit set".
-#[derive(Drop)]
+#[derive(Clone, Copy)]
 pub enum Number {
     Value { value: u64, next: usize },
     Ended,
@@ -60,7 +62,7 @@ pub fn signed(n: u64) -> i64
 }
 
 // "The number reader keeps the lent file and its place."
-#[derive(Drop)]
+#[derive(Clone, Copy)]
 pub struct Reader<'a> {
     pub file: &'a [u8],
     pub at: usize,

@@ -1,5 +1,7 @@
 // What the program writes to standard output (document 01, "Numbers worked by hand"): the words around the numbers, which `session` decides. Single
 // blanks stand between words, and a line feed at each line's end. No contract can say what is written; it is held to stored outputs.
+#![tactic(auto)]
+
 ghost use Rattle.std.specs.Prelude.{◌≡◌, ◌<◌, nat_abs};
 
 use libc::STDOUT_FILENO;

@@ -1,4 +1,6 @@
 // A block's report (document 01, "Metres").
+#![tactic(auto)]
+
 ghost use Rattle.std.specs.Prelude.{◌≡◌, ◌*◌, ◌≤◌, length};
 ghost use Rattle.grid.specs.Inner.{Counted, Termed};
 ghost use Rattle.grid.specs.Place.{blocks_of};
@@ -20,7 +22,7 @@ use slots::{Block, is_active, load};
 use wellformed::check_slices;
 
 // "A block's report gives both heads, interface and both thicknesses in metres, from new heads, the interface being ζ."
-#[derive(Drop)]
+#[derive(Clone, Copy)]
 pub struct Report {
     pub fresh_head: f64,
     pub salt_head: f64,
@@ -30,7 +32,7 @@ pub struct Report {
 }
 
 // A refusal, or beside number 0 a report. The numbers beside a refusal are all 0.0.
-#[derive(Drop)]
+#[derive(Clone, Copy)]
 pub struct Answer {
     pub refusal: Refusal,
     pub report: Report,

@@ -1,5 +1,7 @@
 // What the program prints for a case (document 01, "Numbers worked by hand"): the numbers of a refusal, or of a verdict and the tables of the layers
 // and of the whole. The words around them are in `printing`.
+#![tactic(auto)]
+
 ghost use Rattle.std.specs.Prelude.{false, ◌≡◌, ◌*◌, ◌+◌, ◌≤◌, length};
 ghost use Rattle.whole.specs.Lent.{over};
 ghost use Rattle.slices.specs.Slices.{case_of};
@@ -25,7 +27,7 @@ use whole::lent::copy_front;
 // A refusal, or beside number 0 a verdict and how many tables follow it: one for each layer from 1 and one for the whole, or none. A table has eighteen
 // lines, litres a day, as in `budget`, and the tables stand one after the other; all lines behind them are 0. Beside a refusal the verdict has code 20, not judged,
 // and all else is 0.
-#[derive(Drop)]
+#[derive(Clone, Copy)]
 pub struct Session {
     pub refusal: Refusal,
     pub verdict: Verdict,

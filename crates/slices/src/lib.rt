@@ -1,5 +1,7 @@
 // A case as slices hold it, and what it is refused with before any physics: "Slices are judged 3, 7, 4, 5, 6", each number over
 // everything before the next begins (document 01, "Refusal numbers").
+#![tactic(auto)]
+
 ghost use Rattle.std.specs.Prelude.{◌≡◌, ◌*◌, ◌≤◌, length};
 ghost use Rattle.grid.specs.Inner.{Counted};
 ghost use Rattle.grid.specs.Place.{blocks_of};
@@ -14,7 +16,7 @@ use slots::units::SLOTS_EACH;
 use whole::ranges::{Range, all_within};
 
 // A refusal by its number in document 01 and the block that it names, counted from 1; 0 where it names none. Number 0 is no refusal.
-#[derive(Drop)]
+#[derive(Clone, Copy)]
 pub struct Refusal {
     pub number: u64,
     pub block: usize,

@@ -1,5 +1,7 @@
 // A block's sixteen slots (document 01, "Units and ranges"): the table of their ends, the slots as a struct, and the rules that the table
 // does not hold. The reader of a file and the check of slices both use what stands here.
+#![tactic(auto)]
+
 pub mod ranges;
 pub mod rules;
 pub mod units;
@@ -12,7 +14,7 @@ use units::SLOTS_EACH;
 // A block's slots. Units: ticks for base, thickness, screens, level and heads; mm/day for k; per mille for porosity; 10^-6 a day
 // for the leakances; µm/day for recharge; litres a day for pumpage, positive where taken out. The level is the stage of a river or
 // the floor of a sea.
-#[derive(Drop)]
+#[derive(Clone, Copy)]
 pub struct Block {
     pub k: i64,
     pub base: i64,

@@ -1,5 +1,7 @@
 // What the programs that run stored vectors share: the numbers of a batch, the cases in it, and what more than one of them prints. docs/VECTORS.md has the
 // form of a batch.
+#![tactic(auto)]
+
 pub mod print;
 
 ghost use Rattle.std.specs.Prelude.{◌≡◌, ◌<◌, ◌≤◌, ◌+◌, ◌^◌, length, take};
@@ -16,7 +18,7 @@ pub const WIDTHS_ROOM: usize = 1_024;
 pub const SLOTS_ROOM: usize = 16_384;
 
 // A number of a batch, or the batch's end.
-#[derive(Drop)]
+#[derive(Clone, Copy)]
 pub enum Due {
     Number { number: u64 },
     Ended,

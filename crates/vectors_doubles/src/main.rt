@@ -1,4 +1,6 @@
 // Runs stored doubles through `metres`. What it writes is held to the file `stdout`; docs/VECTORS.md has the form of both.
+#![tactic(auto)]
+
 use libc::STDOUT_FILENO;
 use metres::boundary::{Boundary, take_boundary};
 use metres::{Taken, take_in};

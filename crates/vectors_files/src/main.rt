@@ -1,4 +1,6 @@
 // Runs stored files through `session` and `casefile`. What it writes is held to the file `stdout`; docs/VECTORS.md has the form of both.
+#![tactic(auto)]
+
 mod reads;
 
 ghost use Rattle.io.specs.Counts.{IsPrefixLen};

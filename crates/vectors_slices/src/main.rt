@@ -1,5 +1,7 @@
 // Runs stored cases in slices through `wellformed`, `verdict`, `budget` and `report`. What it writes is held to the file `stdout`; docs/VECTORS.md has the
 // form of both.
+#![tactic(auto)]
+
 mod print;
 
 use budget::zone_table;
@@ -17,7 +19,7 @@ use wellformed::check_slices;
 const MARKS_ROOM: usize = 1_024;
 
 // What is asked of a stored case.
-#[derive(Drop)]
+#[derive(Clone, Copy)]
 enum Asked {
     Verdict,
     Table,

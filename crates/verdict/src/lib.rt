@@ -1,4 +1,6 @@
 // The verdict on proposed heads (document 01, "Balance, verdict, table").
+#![tactic(auto)]
+
 pub mod places;
 pub mod search;
 pub mod units;
@@ -31,7 +33,7 @@ use wellformed::check_slices;
 
 // "A verdict has the code, the first block concerned (0 if accepted), how many places fail .., and the largest balance without sign among
 // free places", litres a day. Blocks are counted from 1.
-#[derive(Drop)]
+#[derive(Clone, Copy)]
 pub struct Verdict {
     pub code: u64,
     pub block: usize,
@@ -40,7 +42,7 @@ pub struct Verdict {
 }
 
 // A refusal, or a verdict beside number 0. The verdict beside a refusal has code 20, not judged, and is otherwise all 0.
-#[derive(Drop)]
+#[derive(Clone, Copy)]
 pub struct Answer {
     pub refusal: Refusal,
     pub verdict: Verdict,

@@ -1,5 +1,7 @@
 // A case in slices, judged in full: refusals 9 and 10 join those of `slices`, and a case that is not refused is well formed (document 01,
 // "Refusal numbers").
+#![tactic(auto)]
+
 pub mod limits;
 pub mod links;
 pub mod widths;

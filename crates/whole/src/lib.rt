@@ -1,4 +1,6 @@
 // Whole numbers: floor, cut, a rounded quotient, the lesser, the greater, a number that is held between two (document 01, "Units and ranges").
+#![tactic(auto)]
+
 pub mod lent;
 pub mod nearest;
 pub mod ranges;

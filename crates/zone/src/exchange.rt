@@ -19,7 +19,7 @@ use grid::units::ABOVE;
 use whole::greatest;
 
 // What crosses the zone's edge by the links that lead on from a block, each way, litres a day.
-#[derive(Drop)]
+#[derive(Clone, Copy)]
 pub struct Crossing {
     pub inflow: i64,
     pub outflow: i64,

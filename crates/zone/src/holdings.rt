@@ -21,7 +21,7 @@ use grid::place::Place;
 use slots::load;
 
 // What a block's balance gives to "supply" and "error", litres a day.
-#[derive(Drop)]
+#[derive(Clone, Copy)]
 pub struct Settlement {
     pub supply: i64,
     pub error: i64,

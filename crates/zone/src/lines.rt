@@ -12,7 +12,7 @@ use grid::Grid;
 use grid::place::place_of;
 
 // A number for each of the nine lines, litres a day.
-#[derive(Drop)]
+#[derive(Clone, Copy)]
 pub struct Lines {
     pub storage: i64,
     pub edge_in: i64,

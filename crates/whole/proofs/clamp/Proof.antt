@@ -13,8 +13,8 @@ unfolding clamp_of
 returns c =
     let s = c.before.before in
     let lesser : to_z w64 (of_z w64 c.before.least.result) ≡ min_ℤ s.args.x s.args.high =
-    to_z-of_z (sfits_of c.before.least.type-inv) ∙ c.before.least.ensures ∙ ap₂ min_ℤ (to_z-of_z s.ranges.x) (to_z-of_z s.ranges.high) in
-    to_z-of_z (sfits_of c.greatest.type-inv) ∙ c.greatest.ensures ∙ ap₂ max_ℤ (to_z-of_z s.ranges.low) lesser
+    to_z-of_z {w = w64} (sfits_of {w = w64} c.before.least.type_inv) ∙ c.before.least.ensures ∙ ap₂ min_ℤ (to_z-of_z s.ranges.x) (to_z-of_z s.ranges.high) in
+    to_z-of_z {w = w64} (sfits_of {w = w64} c.greatest.type_inv) ∙ c.greatest.ensures ∙ ap₂ max_ℤ (to_z-of_z s.ranges.low) lesser
 
 pub clamp_spec : {M : Type 1} → statement M
 clamp_spec = tie.close (tie.spec (λ c κs. search rules) (λ c κs. search rules) returns)

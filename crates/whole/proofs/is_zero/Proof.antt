@@ -26,11 +26,11 @@ from_zero (pos n) h = same n
     same (suc n) = le-ltb (suc n) 1 (omega arith) ∙ sym (ne_eqb (suc n) 0 (omega arith))
 from_zero (negsuc n) h = absurd h.le
 
-returns : tie.Need-returns
-returns c = below c.before.args.a (lt_yes c.before.ranges.a (fits (b_pos 0) tt) c.if1.true)
+returns : tie.Need-returns-then-a-lt0
+returns c = below c.before.args.a (lt_yes c.before.ranges.a (fits (b_pos 0) tt) c.if-a-lt0.true)
 
-returns-2 : tie.Need-returns-2
-returns-2 c = rw (to_z-of_z c.before.ranges.a) (from_zero c.before.args.a (lt_no c.before.ranges.a (fits (b_pos 0) tt) c.if1.false))
+returns-2 : tie.Need-returns-else-a-lt0
+returns-2 c = rw (to_z-of_z c.before.ranges.a) (from_zero c.before.args.a (lt_no c.before.ranges.a (fits (b_pos 0) tt) c.if-a-lt0.false))
 
-pub is-zero-spec : {M : Type 1} → statement M
-is-zero-spec = tie.close (tie.spec returns returns-2)
+pub is_zero_spec : {M : Type 1} → statement M
+is_zero_spec = tie.close (tie.spec returns returns-2)

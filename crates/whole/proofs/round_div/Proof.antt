@@ -6,30 +6,30 @@ use Rattle.whole.proofs.RoundedLaws.{round_above, round_below}
 use Rattle.whole.proofs.round_div.Statement.{statement}
 use Rattle.whole.proofs.round_div.Tie as tie
 
-div-half : tie.Need-nonzero-div-half
+div-half : tie.Need-nonzero_div-half
 div-half c = (omega arith, fits (search ranges depth 20) tt)
 
-sub-result : tie.Need-overflow-sub-result
+sub-result : tie.Need-overflow_sub-result
 sub-result c = fits (search ranges depth 20) tt
 
-div-result : tie.Need-nonzero-div-result
+div-result : tie.Need-nonzero_div-result
 div-result c = (nonzero c.before.requires.1.low, fits (search ranges depth 20) tt)
 
-add-result : tie.Need-overflow-add-result
+add-result : tie.Need-overflow_add-result
 add-result c = fits (search ranges depth 20) tt
 
-div-result-2 : tie.Need-nonzero-div-result-2
+div-result-2 : tie.Need-nonzero_div-result-else-a-lt0
 div-result-2 c = (nonzero c.before.requires.1.low, fits (search ranges depth 20) tt)
 
-returns : tie.Need-returns
+returns : tie.Need-returns-then-a-lt0
 returns c =
     let s = c.before in
-    exact (search ranges depth 20) ∙ round_below s.args.a s.args.d (lt_yes s.ranges.a (fits (b_pos 0) tt) c.if1.true) s.requires.1.low
+    exact (search ranges depth 20) ∙ round_below s.args.a s.args.d (lt_yes s.ranges.a (fits (b_pos 0) tt) c.if-a-lt0.true) s.requires.1.low
 
-returns-2 : tie.Need-returns-2
+returns-2 : tie.Need-returns-else-a-lt0
 returns-2 c =
     let s = c.before in
-    exact (search ranges depth 20) ∙ round_above s.args.a s.args.d (lt_no s.ranges.a (fits (b_pos 0) tt) c.if1.false) s.requires.1.low
+    exact (search ranges depth 20) ∙ round_above s.args.a s.args.d (lt_no s.ranges.a (fits (b_pos 0) tt) c.if-a-lt0.false) s.requires.1.low
 
-pub round-div-spec : {M : Type 1} → statement M
-round-div-spec = tie.close (tie.spec div-half sub-result div-result add-result div-result-2 returns returns-2)
+pub round_div_spec : {M : Type 1} → statement M
+round_div_spec = tie.close (tie.spec div-half sub-result div-result add-result div-result-2 returns returns-2)

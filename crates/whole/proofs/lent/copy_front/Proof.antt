@@ -16,21 +16,21 @@ use Rattle.whole.proofs.LentLaws.{over_front, stored_drop, stored_take}
 use Rattle.whole.proofs.lent.copy_front.Statement.{statement}
 use Rattle.whole.proofs.lent.copy_front.Tie as tie
 
-abbrev invariant-loop : tie.invariant-loop
+abbrev invariant-loop : tie.invariant-loop-k
 invariant-loop from to₀ k₀ k-end to k = (take k to ≡ take k from) × (drop k to ≡ drop k to₀) × (length to ≡ length to₀) × (k ≤ k-end)
 
-abbrev decreases-loop : tie.decreases-loop
+abbrev decreases-loop : tie.decreases-loop-k
 decreases-loop from to₀ k₀ k-end to k = k-end - k
 
-mul-to : tie.Need-overflow-mul-to invariant-loop decreases-loop
-mul-to c = scaled_Fits c.before.loop.k (length c.before.before.args.from.now) 8 (omega arith) (search rules)
+mul-to : tie.Need-offset_bounds-from-k invariant-loop decreases-loop
+mul-to c = scaled_Fits c.before.loop-k.k (length c.before.before.args.from.now) 8 (omega arith) (search rules)
 
-mul-t9 : tie.Need-overflow-mul-t9 invariant-loop decreases-loop
-mul-t9 c = scaled_Fits c.before.before.loop.k (length c.before.before.before.args.from.now) 8 (omega arith) (search rules)
+mul-t9 : tie.Need-offset_bounds-to-k invariant-loop decreases-loop
+mul-t9 c = scaled_Fits c.before.before.loop-k.k (length c.before.before.before.args.from.now) 8 (omega arith) (search rules)
 
-loop-again : tie.Need-loop-preserved invariant-loop decreases-loop
+loop-again : tie.Need-loop-k-preserved invariant-loop decreases-loop
 loop-again c =
-    let l = c.before.before.loop in
+    let l = c.before.before.loop-k in
     let a = c.before.before.before.args in
     let v = get_or a.from.now l.k (pos 0) in
     let vok : SFits w64 v = search rules in
@@ -43,13 +43,13 @@ loop-again c =
 
 returns : tie.Need-returns invariant-loop decreases-loop
 returns c =
-    let l = c.before.loop in
+    let l = c.before.loop-k in
     let a = c.before.before.args in
     let e : l.k ≡ length a.from.now = omega arith in
     over_front l.k l.to a.to.now (omega arith) l.invariant.1 ∙ ap (λ (x : List ℤ). over x a.to.now) (l.invariant.0 ∙ ap (λ (k : ℕ). take k a.from.now) e ∙ take-length a.from.now)
 
-pub copy-front-spec : {M : Type 1} → statement M
-copy-front-spec =
+pub copy_front_spec : {M : Type 1} → statement M
+copy_front_spec =
     tie.close
     (tie.spec
     invariant-loop
@@ -62,5 +62,5 @@ copy-front-spec =
     (λ c. omega arith)
     (λ c. omega arith)
     loop-again
-    (λ c. c.before.loop.invariant.2)
+    (λ c. c.before.loop-k.invariant.2)
     returns)

@@ -12,23 +12,23 @@ use Rattle.whole.proofs.nearest.nearest.Tie as tie
 part : (s : tie.Start) → s.args.digits / s.args.unit ≤ s.args.digits
 part s = div-le_self s.args.digits s.args.unit
 
-mul-twice : tie.Need-overflow-mul-twice
+mul-twice : tie.Need-overflow_mul-twice
 mul-twice c = omega (arith, mod-le c.args.digits c.args.unit)
 
-to-even-requires : tie.Need-to-even-requires
+to-even-requires : tie.Need-to_even-requires
 to-even-requires c κs = omega (arith, part c.before.before)
 
-add-result : tie.Need-overflow-add-result
+add-result : tie.Need-overflow_add-result
 add-result c = omega (arith, part c.before.before)
 
-returns : tie.Need-returns
-returns c = below_half c.before.args.digits c.before.args.unit c.if1.true
+returns : tie.Need-returns-then-twice-unit
+returns c = below_half c.before.args.digits c.before.args.unit c.if-twice-unit.true
 
-returns-2 : tie.Need-returns-2
-returns-2 c = c.to-even.ensures ∙ at_half c.before.before.before.args.digits c.before.before.before.args.unit c.before.if2.true
+returns-2 : tie.Need-returns-then-twice-unit-2
+returns-2 c = c.to_even.ensures ∙ at_half c.before.before.before.args.digits c.before.before.before.args.unit c.before.if-twice-unit-2.true
 
-returns-3 : tie.Need-returns-3
-returns-3 c = above_half c.before.before.args.digits c.before.before.args.unit c.before.if1.false c.if2.false
+returns-3 : tie.Need-returns-else-twice-unit-2
+returns-3 c = above_half c.before.before.args.digits c.before.before.args.unit c.before.if-twice-unit.false c.if-twice-unit-2.false
 
-pub nearest-spec : {M : Type 1} → statement M
-nearest-spec = tie.close (tie.spec (λ c. search rules) (λ c. search rules) mul-twice to-even-requires add-result returns returns-2 returns-3)
+pub nearest_spec : {M : Type 1} → statement M
+nearest_spec = tie.close (tie.spec (λ c. search rules) (λ c. search rules) mul-twice to-even-requires add-result returns returns-2 returns-3)

@@ -7,20 +7,20 @@ use Rattle.whole.proofs.RangeLaws.{le_bits}
 use Rattle.whole.proofs.ranges.in_range.Statement.{statement}
 use Rattle.whole.proofs.ranges.in_range.Tie as tie
 
-returns : tie.Need-returns
+returns : tie.Need-returns-then-range-value
 unfolding in_range
 returns c =
     let s = c.before.before.before.before.before in
-    let lower : SFits w64 s.args.range.lower = record { sfits = c.before.before.before.struct_told.given.0.1 } in
-    let upper : SFits w64 s.args.range.upper = record { sfits = c.before.before.before.struct_told.given.1.0.1 } in
-    rw (sym (le_bits lower s.fits.value) ∙ c.before.before.if1.taken) (le_bits s.fits.value upper)
+    let lower : SFits w64 s.args.range.lower = record { sfits = c.before.before.before.struct_told-1.given.0.1 } in
+    let upper : SFits w64 s.args.range.upper = record { sfits = c.before.before.before.struct_told-1.given.1.0.1 } in
+    rw (sym (le_bits lower s.ranges.value) ∙ c.before.before.if-range-value.true) (le_bits s.ranges.value upper)
 
-returns-2 : tie.Need-returns-2
+returns-2 : tie.Need-returns-else-range-value
 unfolding in_range
 returns-2 c =
     let s = c.before.before.before in
-    let lower : SFits w64 s.args.range.lower = record { sfits = c.before.struct_told.given.0.1 } in
-    rw (sym (le_bits lower s.fits.value) ∙ c.if1.left) c.if1.left
+    let lower : SFits w64 s.args.range.lower = record { sfits = c.before.struct_told-1.given.0.1 } in
+    rw (sym (le_bits lower s.ranges.value) ∙ c.if-range-value.false) c.if-range-value.false
 
-pub in-range-spec : {M : Type 1} → statement M
-in-range-spec = tie.close (tie.spec returns returns-2)
+pub in_range_spec : {M : Type 1} → statement M
+in_range_spec = tie.close (tie.spec returns returns-2)
