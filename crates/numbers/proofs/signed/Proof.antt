@@ -11,25 +11,25 @@ use Rattle.numbers.proofs.NumbersLaws.{less_one}
 use Rattle.numbers.proofs.signed.Statement.{statement}
 use Rattle.numbers.proofs.signed.Tie as tie
 
-cast-half : tie.Need-overflow-cast-half
+cast-half : tie.Need-overflow_cast-half
 cast-half c = search rules
 
-sub-result : tie.Need-overflow-sub-result
+sub-result : tie.Need-overflow_sub-result
 sub-result c =
     let e = to_z_pos w64 {n = c.before.args.n / 2} (omega arith) in
     rw e (rw less_one (record { sfits = omega arith }))
 
-returns : tie.Need-returns
+returns : tie.Need-returns-then-n-eq0
 unfolding signed_of
 returns c =
     let e = to_z_pos w64 {n = c.before.args.n / 2} (omega arith) in
-    rw e (simp (eq-eqb _ _ c.if1.true))
+    rw e (simp (eq-eqb _ _ c.if-n-eq0.true))
 
-returns-2 : tie.Need-returns-2
+returns-2 : tie.Need-returns-else-n-eq0
 unfolding signed_of
 returns-2 c =
     let e = to_z_pos w64 {n = c.before.args.n / 2} (omega arith) in
-    rw e (rw less_one (rw (to_z-of_z {w = w64} {z = negsuc (c.before.args.n / 2)} (record { sfits = omega arith })) (simp (ne_eqb _ _ c.if1.false))))
+    rw e (rw less_one (rw (to_z-of_z {w = w64} {z = negsuc (c.before.args.n / 2)} (record { sfits = omega arith })) (simp (ne_eqb _ _ c.if-n-eq0.false))))
 
-pub signed-spec : {M : Type 1} → statement M
-signed-spec = tie.close (tie.spec cast-half sub-result returns returns-2)
+pub signed_spec : {M : Type 1} → statement M
+signed_spec = tie.close (tie.spec cast-half sub-result returns returns-2)

@@ -9,7 +9,7 @@ use Rattle.slots.proofs.is_active.Statement.{statement}
 use Rattle.slots.proofs.is_active.Tie as tie
 
 returns : tie.Need-returns
-returns c = ap (lt_z (pos 0)) (read_back _ c.result.given ∙ first_slot c.before.args.slots.now c.before.args.block)
+returns c = ap (lt_z (pos 0)) (read_back _ c.result-1.given ∙ first_slot c.before.args.slots.now c.before.args.block)
 
-pub is-active-spec : {M : Type 1} → statement M
-is-active-spec = tie.close (tie.spec (λ c. search rules) (λ c. search rules) (λ c. search rules) returns)
+pub is_active_spec : {M : Type 1} → statement M
+is_active_spec = tie.close (tie.spec (λ c. search rules) (λ c. search rules) (λ c. search rules) returns)

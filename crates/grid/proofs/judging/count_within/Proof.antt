@@ -3,11 +3,11 @@ use borrow.Author.Tests.{le-leb, lt-leb}
 use Rattle.grid.proofs.judging.count_within.Statement.{statement}
 use Rattle.grid.proofs.judging.count_within.Tie as tie
 
-returns : tie.Need-returns
-returns c = rw (le-leb 1 c.before.args.n c.if1.true)
+returns : tie.Need-returns-then-n-ge1
+returns c = rw (le-leb 1 c.before.args.n c.if-n-ge1.true)
 
-returns-2 : tie.Need-returns-2
-returns-2 c = rw (lt-leb 1 c.before.args.n c.if1.false)
+returns-2 : tie.Need-returns-else-n-ge1
+returns-2 c = rw (lt-leb 1 c.before.args.n c.if-n-ge1.false)
 
-pub count-within-spec : {M : Type 1} → statement M
-count-within-spec = tie.close (tie.spec returns returns-2)
+pub count_within_spec : {M : Type 1} → statement M
+count_within_spec = tie.close (tie.spec returns returns-2)

@@ -32,54 +32,54 @@ module _ (g : Grid) (d i : ℕ) (on : Bool) where
   ends-out o t = rw (o, t)
 
 -- what the two calls told
-leads-on : (c : tie.After-has-next) → next_of c.before.before.before.args.g c.before.before.before.args.axis c.before.before.before.args.block ≡ c.has-next.result
+leads-on : (c : tie.After-has_next) → next_of c.before.before.before.args.g c.before.before.before.args.axis c.before.before.before.args.block ≡ c.has_next.result
 leads-on c =
     let p = c.before.before in
-    next_told p.before.args.g p.before.args.axis p.before.args.block p.place_of.result c.has-next.result p.place_of.ensures c.has-next.ensures
+    next_told p.before.args.g p.before.args.axis p.before.args.block p.place_of-place.result c.has_next.result p.place_of-place.ensures c.has_next.ensures
 
-ends-here : (c : tie.After-has-previous) → previous_of c.before.before.before.args.g c.before.before.before.args.axis c.before.before.before.args.block ≡ c.has-previous.result
+ends-here : (c : tie.After-has_previous) → previous_of c.before.before.before.args.g c.before.before.before.args.axis c.before.before.before.args.block ≡ c.has_previous.result
 ends-here c =
     let p = c.before.before in
-    previous_told p.before.args.g p.before.args.axis p.before.args.block p.place_of.result c.has-previous.result p.place_of.ensures c.has-previous.ensures
+    previous_told p.before.args.g p.before.args.axis p.before.args.block p.place_of-place.result c.has_previous.result p.place_of-place.ensures c.has_previous.ensures
 
-add-t9 : tie.Need-overflow-add-t9
+add-t9 : tie.Need-overflow_add-result
 add-t9 c =
     let h = c.before.before in
     let s = h.before.before.before in
-    omega (arith, next_inside s.args.g s.requires.0 s.args.axis s.args.block s.requires.1 (holds (leads-on h ∙ c.before.if2.true)), c.stride.ensures, s.requires.0.blocks_most)
+    omega (arith, next_inside s.args.g s.requires.0 s.args.axis s.args.block s.requires.1 (holds (leads-on h ∙ c.before.if-has_next.true)), c.stride.ensures, s.requires.0.blocks_most)
 
-returns : tie.Need-returns
+returns : tie.Need-returns-then-has_next
 returns c =
     let h = c.before.before in
     let s = h.before.before.before in
-    leads s.args.g s.args.axis s.args.block c.stride.result s.args.on c.stride.ensures h.before.if1.true (leads-on h ∙ c.before.if2.true)
+    leads s.args.g s.args.axis s.args.block c.stride.result s.args.on c.stride.ensures h.before.if-on.true (leads-on h ∙ c.before.if-has_next.true)
 
-returns-2 : tie.Need-returns-2
+returns-2 : tie.Need-returns-then-on
 returns-2 c =
     let h = c.before in
     let s = h.before.before.before in
-    leads-out s.args.g s.args.axis s.args.block s.args.on h.before.if1.true (leads-on h ∙ c.if2.false)
+    leads-out s.args.g s.args.axis s.args.block s.args.on h.before.if-on.true (leads-on h ∙ c.if-has_next.false)
 
-sub-t12 : tie.Need-overflow-sub-t12
+sub-t12 : tie.Need-overflow_sub-result
 sub-t12 c =
     let h = c.before.before in
     let s = h.before.before.before in
-    omega (arith, previous_low s.args.g s.requires.0 s.args.axis s.args.block s.requires.1 (holds (ends-here h ∙ c.before.if3.true)), c.stride2.ensures)
+    omega (arith, previous_low s.args.g s.requires.0 s.args.axis s.args.block s.requires.1 (holds (ends-here h ∙ c.before.if-has_previous.true)), c.stride-then-has_previous.ensures)
 
-returns-3 : tie.Need-returns-3
+returns-3 : tie.Need-returns-then-has_previous
 returns-3 c =
     let h = c.before.before in
     let s = h.before.before.before in
-    ends s.args.g s.args.axis s.args.block c.stride2.result s.args.on c.stride2.ensures h.before.if1.false (ends-here h ∙ c.before.if3.true)
+    ends s.args.g s.args.axis s.args.block c.stride-then-has_previous.result s.args.on c.stride-then-has_previous.ensures h.before.if-on.false (ends-here h ∙ c.before.if-has_previous.true)
 
-returns-4 : tie.Need-returns-4
+returns-4 : tie.Need-returns
 returns-4 c =
     let h = c.before in
     let s = h.before.before.before in
-    ends-out s.args.g s.args.axis s.args.block s.args.on h.before.if1.false (ends-here h ∙ c.if3.false)
+    ends-out s.args.g s.args.axis s.args.block s.args.on h.before.if-on.false (ends-here h ∙ c.if-has_previous.false)
 
-pub across-spec : {M : Type 1} → statement M
-across-spec =
+pub across_spec : {M : Type 1} → statement M
+across_spec =
     tie.close
     (tie.spec
     (λ c κs. search rules)

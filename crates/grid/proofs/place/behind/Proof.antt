@@ -18,17 +18,17 @@ module _ (g : Grid) (d i : ℕ) (low : Bool) (r : Neighbour) where
   unfolding behind_of
   high_end s f h e = rw (h, ← f, e)
 
-returns : tie.Need-returns
+returns : tie.Need-returns-then-low
 returns c =
     let s = c.before.before in
-    low_end s.args.g s.args.axis s.args.block s.args.low c.across.result c.before.if1.true c.across.ensures
+    low_end s.args.g s.args.axis s.args.block s.args.low c.across.result c.before.if-low.true c.across.ensures
 
-returns-2 : tie.Need-returns-2
+returns-2 : tie.Need-returns-else-low
 returns-2 c =
     let s = c.before.before.before in
-    high_end s.args.g s.args.axis s.args.block s.args.low c.across2.result c.before.stride.result c.before.stride.ensures c.before.before.if1.false c.across2.ensures
+    high_end s.args.g s.args.axis s.args.block s.args.low c.across-else-low.result c.before.stride.result c.before.stride.ensures c.before.before.if-low.false c.across-else-low.ensures
 
-pub behind-spec : {M : Type 1} → statement M
-behind-spec =
+pub behind_spec : {M : Type 1} → statement M
+behind_spec =
     tie.close
     (tie.spec (λ c κs. search rules) (λ c κs. search rules) (λ c. search rules) (λ c κs. search rules) returns returns-2)

@@ -5,8 +5,8 @@ use borrow.Author.Rules.{rules}
 use Rattle.grid.proofs.place.blocks.Statement.{statement}
 use Rattle.grid.proofs.place.blocks.Tie as tie
 
-mul-result : tie.Need-overflow-mul-result
+mul-result : tie.Need-overflow_mul-result
 mul-result c = omega (arith, mul-le-mul c.before.requires.columns_most c.before.requires.rows_most)
 
-pub blocks-spec : {M : Type 1} → statement M
-blocks-spec = tie.close (tie.spec mul-result (λ c. search rules) (λ c. search rules))
+pub blocks_spec : {M : Type 1} → statement M
+blocks_spec = tie.close (tie.spec mul-result (λ c. search rules) (λ c. search rules))

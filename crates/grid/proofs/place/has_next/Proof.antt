@@ -8,16 +8,16 @@ use Rattle.grid.specs.Place.{has_next}
 use Rattle.grid.proofs.place.has_next.Statement.{statement}
 use Rattle.grid.proofs.place.has_next.Tie as tie
 
-returns : tie.Need-returns
+returns : tie.Need-returns-then-at-most
 unfolding has_next
-returns c = rw (c.before.before.coordinate.ensures, c.before.extent.ensures)
+returns c = rw (c.before.before.coordinate-at.ensures, c.before.extent-most.ensures)
 
-returns-2 : tie.Need-returns-2
+returns-2 : tie.Need-returns-else-at-most
 unfolding has_next
 returns-2 c =
-    let at = c.before.before.coordinate.result in
-    rw (← c.before.before.coordinate.ensures, ← c.before.extent.ensures) (sym (le-ltb (at + 1) c.before.extent.result (omega arith)))
+    let at = c.before.before.coordinate-at.result in
+    rw (← c.before.before.coordinate-at.ensures, ← c.before.extent-most.ensures) (sym (le-ltb (at + 1) c.before.extent-most.result (omega arith)))
 
-pub has-next-spec : {M : Type 1} → statement M
-has-next-spec =
+pub has_next_spec : {M : Type 1} → statement M
+has_next_spec =
     tie.close (tie.spec (λ c κs. search rules) (λ c κs. search rules) (λ c. search rules) returns returns-2)

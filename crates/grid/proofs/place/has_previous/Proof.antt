@@ -8,5 +8,5 @@ returns : tie.Need-returns
 unfolding has_previous
 returns c = rw c.coordinate.ensures
 
-pub has-previous-spec : {M : Type 1} → statement M
-has-previous-spec = tie.close (tie.spec (λ c κs. search rules) returns)
+pub has_previous_spec : {M : Type 1} → statement M
+has_previous_spec = tie.close (tie.spec (λ c κs. search rules) returns)

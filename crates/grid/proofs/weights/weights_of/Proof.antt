@@ -15,37 +15,37 @@ use Rattle.grid.specs.Weights.{pair_of, weights_of}
 use Rattle.grid.proofs.weights.weights_of.Statement.{statement}
 use Rattle.grid.proofs.weights.weights_of.Tie as tie
 
-zero : (c : tie.After-is-zero) → is_zero c.before.before.args.g.delta ≡ c.is_zero.result
-zero c = let g = c.before.before.args.g in sym (c.is_zero.ensures ∙ ap is_zero (read_back g.delta c.before.struct_told.given.1.1.1.0.1))
+zero : (c : tie.After-is_zero) → is_zero c.before.before.args.g.delta ≡ c.is_zero.result
+zero c = let g = c.before.before.args.g in sym (c.is_zero.ensures ∙ ap is_zero (read_back g.delta c.before.struct_told-1.given.1.1.1.0.1))
 
 -- a whole δ is the fresh weight of its pair
 whole : (g : Grid) → is_zero g.delta ≡ false → Weighed (weights_of g) → In (pos 1) (pos most_fresh_weight) g.delta
 unfolding weights_of
 whole g e = rw e (λ h. h.fresh)
 
-delta-in : (c : tie.Else1) → In (pos 1) (pos most_fresh_weight) c.before.before.before.args.g.delta
-delta-in c = whole c.before.before.before.args.g (zero c.before ∙ c.if1.false) c.before.before.before.requires.weighed
+delta-in : (c : tie.Else-is_zero) → In (pos 1) (pos most_fresh_weight) c.before.before.before.args.g.delta
+delta-in c = whole c.before.before.before.args.g (zero c.before ∙ c.if-is_zero.false) c.before.before.before.requires.weighed
 
-returns : tie.Need-returns
+returns : tie.Need-returns-then-is_zero
 unfolding weights_of
 returns c =
     let z = c.before.before in
     let g = z.before.before.args.g in
-    rw (zero z ∙ c.before.if1.true)
-    (λ i. pair_of (read_back g.fresh_weight c.struct-told2.given.1.1.1.1.0.1 i) (read_back g.salt_weight c.struct-told2.given.1.1.1.1.1.0.1 i))
+    rw (zero z ∙ c.before.if-is_zero.true)
+    (λ i. pair_of (read_back g.fresh_weight c.struct_told-then-is_zero-1.given.1.1.1.1.0.1 i) (read_back g.salt_weight c.struct_told-then-is_zero-1.given.1.1.1.1.1.0.1 i))
 
-add-t3 : tie.Need-overflow-add-t3
+add-t3 : tie.Need-overflow_add-result
 add-t3 c = fits (search (ranges, leaf (delta-in c.before.before)) depth 20) tt
 
-returns-2 : tie.Need-returns-2
+returns-2 : tie.Need-returns
 unfolding weights_of
 returns-2 c =
     let g = c.before.before.before.before.before.before.args.g in
-    rw (zero c.before.before.before.before ∙ c.before.before.before.if1.false)
-    (λ i. pair_of (read_back g.delta c.struct-told4.given.1.1.1.0.1 i) (next g.delta (delta-in c.before.before.before) i))
+    rw (zero c.before.before.before.before ∙ c.before.before.before.if-is_zero.false)
+    (λ i. pair_of (read_back g.delta c.struct_told-3-1.given.1.1.1.0.1 i) (next g.delta (delta-in c.before.before.before) i))
   where
     next : (δ : ℤ) → In (pos 1) (pos most_fresh_weight) δ → to_z w64 (of_z w64 (to_z w64 (of_z w64 δ) +ℤ pos 1)) ≡ δ +ℤ pos 1
     next δ h = exact (search ranges depth 20)
 
-pub weights-of-spec : {M : Type 1} → statement M
-weights-of-spec = tie.close (tie.spec (λ c κs. search rules) returns add-t3 returns-2)
+pub weights_of_spec : {M : Type 1} → statement M
+weights_of_spec = tie.close (tie.spec (λ c κs. search rules) returns add-t3 returns-2)

@@ -8,13 +8,13 @@ use Rattle.slots.specs.Ranges.{ranges, range_of}
 use Rattle.slots.proofs.ranges.range_of.Statement.{statement}
 use Rattle.slots.proofs.ranges.range_of.Tie as tie
 
-returns : tie.Need-returns
+returns : tie.Need-returns-then-slot-lt-SLOTS_EACH
 unfolding range_of
 returns c = refl
 
-returns-2 : tie.Need-returns-2
+returns-2 : tie.Need-returns-else-slot-lt-SLOTS_EACH
 unfolding range_of
-returns-2 c = sym (get_or-eq_default ranges (between (pos 0) (pos 0)) c.if1.left)
+returns-2 c = sym (get_or-eq_default ranges (between (pos 0) (pos 0)) c.if-slot-lt-SLOTS_EACH.false)
 
-pub range-of-spec : {M : Type 1} → statement M
-range-of-spec = tie.close (tie.spec (λ c. search rules) (λ c. search rules) returns returns-2)
+pub range_of_spec : {M : Type 1} → statement M
+range_of_spec = tie.close (tie.spec (λ c. search rules) (λ c. search rules) returns returns-2)

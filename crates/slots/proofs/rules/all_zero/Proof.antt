@@ -6,7 +6,7 @@ use Rattle.slots.proofs.rules.all_zero.Tie as tie
 
 returns : tie.Need-returns
 unfolding all_zero
-returns c = c.all-within.ensures
+returns c = c.all_within.ensures
 
-pub all-zero-spec : {M : Type 1} → statement M
-all-zero-spec = tie.close (tie.spec (λ c κs. search rules) returns)
+pub all_zero_spec : {M : Type 1} → statement M
+all_zero_spec = tie.close (tie.spec (λ c κs. search rules) returns)

@@ -12,26 +12,26 @@ use Rattle.slots.proofs.rules.boundary_holds.Tie as tie
 three : {a b c a' b' c' : ℤ} → a ≡ a' → b ≡ b' → c ≡ c' → open_holds a b c ≡ open_holds a' b' c'
 three p q r = λ i. open_holds (p i) (q i) (r i)
 
-returns : tie.Need-returns
+returns : tie.Need-returns-then-top
 unfolding boundary_holds
 returns c =
     let o = c.before.before.before.before.before.before in
     let ends = o.before.requires in
-    rw (sym o.is_open.ensures ∙ c.before.before.before.before.before.if1.true, c.before.before.before.before.if2.true)
-    (c.open-holds.ensures ∙ three (read ends.kind tt) (read ends.level tt) (read ends.boundary_leakance tt))
+    rw (sym o.is_open.ensures ∙ c.before.before.before.before.before.if-is_open.true, c.before.before.before.before.if-top.true)
+    (c.open_holds.ensures ∙ three (read ends.kind tt) (read ends.level tt) (read ends.boundary_leakance tt))
 
-returns-2 : tie.Need-returns-2
+returns-2 : tie.Need-returns-then-is_open
 unfolding boundary_holds
-returns-2 c = rw (sym c.before.before.is_open.ensures ∙ c.before.if1.true, c.if2.false)
+returns-2 c = rw (sym c.before.before.is_open.ensures ∙ c.before.if-is_open.true, c.if-top.false)
 
-returns-3 : tie.Need-returns-3
+returns-3 : tie.Need-returns
 unfolding boundary_holds
 returns-3 c =
     let o = c.before.before.before.before in
     let ends = o.before.requires in
-    rw (sym o.is_open.ensures ∙ c.before.before.before.if1.false) (c.both_zero.ensures ∙ ap₂ (λ x y. is_zero x && is_zero y) (read ends.level tt) (read ends.boundary_leakance tt))
+    rw (sym o.is_open.ensures ∙ c.before.before.before.if-is_open.false) (c.both_zero.ensures ∙ ap₂ (λ x y. is_zero x && is_zero y) (read ends.level tt) (read ends.boundary_leakance tt))
 
-pub boundary-holds-spec : {M : Type 1} → statement M
-boundary-holds-spec =
+pub boundary_holds_spec : {M : Type 1} → statement M
+boundary_holds_spec =
     tie.close
     (tie.spec (λ c κs. search rules) (λ c κs. search rules) returns returns-2 (λ c κs. search rules) returns-3)

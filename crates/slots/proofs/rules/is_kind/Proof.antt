@@ -15,5 +15,5 @@ apart c = exact (search (ranges, leaf c.requires.0.kind, leaf c.requires.1) dept
 returns : tie.Need-returns
 returns c = c.is_zero.ensures ∙ ap is_zero (apart c.before.before.before)
 
-pub is-kind-spec : {M : Type 1} → statement M
-is-kind-spec = tie.close (tie.spec (λ c. fits (search (ranges, leaf c.before.before.requires.0.kind, leaf c.before.before.requires.1) depth 20) tt) (λ c κs. search rules) returns)
+pub is_kind_spec : {M : Type 1} → statement M
+is_kind_spec = tie.close (tie.spec (λ c. fits (search (ranges, leaf c.before.before.requires.0.kind, leaf c.before.before.requires.1) depth 20) tt) (λ c κs. search rules) returns)

@@ -8,7 +8,7 @@ use Rattle.slots.proofs.rules.is_open.Statement.{statement}
 use Rattle.slots.proofs.rules.is_open.Tie as tie
 
 returns : tie.Need-returns
-returns c = c.in-range.ensures ∙ ap (in_range (between (pos 1) (pos 2))) (read c.before.before.requires.kind tt)
+returns c = c.in_range.ensures ∙ ap (in_range (between (pos 1) (pos 2))) (read c.before.before.requires.kind tt)
 
-pub is-open-spec : {M : Type 1} → statement M
-is-open-spec = tie.close (tie.spec (λ c κs. search rules) returns)
+pub is_open_spec : {M : Type 1} → statement M
+is_open_spec = tie.close (tie.spec (λ c κs. search rules) returns)

@@ -3,11 +3,11 @@ use Rattle.whole.proofs.RangeLaws.{ranges, within}
 use Rattle.slots.proofs.rules.is_sea.Statement.{statement}
 use Rattle.slots.proofs.rules.is_sea.Tie as tie
 
-is-kind-requires : tie.Need-is-kind-requires
+is-kind-requires : tie.Need-is_kind-requires
 is-kind-requires c κs = (c.requires, within (search ranges depth 20) tt tt)
 
 returns : tie.Need-returns
-returns c = c.is-kind.ensures
+returns c = c.is_kind.ensures
 
-pub is-sea-spec : {M : Type 1} → statement M
-is-sea-spec = tie.close (tie.spec is-kind-requires returns)
+pub is_sea_spec : {M : Type 1} → statement M
+is_sea_spec = tie.close (tie.spec is-kind-requires returns)

@@ -7,13 +7,13 @@ use Rattle.slots.specs.Rules.{layer_holds}
 use Rattle.slots.proofs.rules.layer_holds.Statement.{statement}
 use Rattle.slots.proofs.rules.layer_holds.Tie as tie
 
-returns : tie.Need-returns
+returns : tie.Need-returns-then-top
 unfolding layer_holds
-returns c = rw c.before.before.if1.true (c.is_zero.ensures ∙ ap is_zero (read c.before.before.before.requires.leakance tt))
+returns c = rw c.before.before.if-top.true (c.is_zero.ensures ∙ ap is_zero (read c.before.before.before.requires.leakance tt))
 
-returns-2 : tie.Need-returns-2
+returns-2 : tie.Need-returns-else-top
 unfolding layer_holds
-returns-2 c = rw c.before.before.if1.false (c.is-zero2.ensures ∙ ap is_zero (read c.before.before.before.requires.recharge tt))
+returns-2 c = rw c.before.before.if-top.false (c.is_zero-else-top.ensures ∙ ap is_zero (read c.before.before.before.requires.recharge tt))
 
-pub layer-holds-spec : {M : Type 1} → statement M
-layer-holds-spec = tie.close (tie.spec (λ c κs. search rules) (λ c κs. search rules) returns returns-2)
+pub layer_holds_spec : {M : Type 1} → statement M
+layer_holds_spec = tie.close (tie.spec (λ c κs. search rules) (λ c κs. search rules) returns returns-2)
