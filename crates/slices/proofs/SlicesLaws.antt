@@ -111,6 +111,7 @@ unless_alone n false h = sym (or_first (refusal n 0) none h)
 pub unless_passes : (n : ℕ) (b : Bool) → T b → (first_refusal (unless n b ∷ [])).number ≡ 0
 unfolding first_refusal or_else
 unless_passes n true t = refl
+unless_passes n false t = elim t [ ]
 
 -- a refusal among those judged, wherever in their order
 pub data Among (x : Refusal) : List Refusal → Type 0 where

@@ -6,5 +6,5 @@ use Rattle.block.proofs.together.Tie as tie
 returns : tie.Need-returns
 returns c = exact (search ranges depth 20)
 
-pub together-spec : {M : Type 1} → statement M
-together-spec = tie.close (tie.spec (λ c. fits (search ranges depth 20) tt) returns)
+pub together_spec : {M : Type 1} → statement M
+together_spec = tie.close (tie.spec (λ c. fits (search ranges depth 20) tt) returns)

@@ -10,34 +10,34 @@ use Rattle.slices.proofs.SlicesLaws.{blames_some, blames_on}
 use Rattle.slices.proofs.contents.Statement.{statement}
 use Rattle.slices.proofs.contents.Tie as tie
 
-terms : (c : tie.Else1) → terms_hold c.before.before.args.g ≡ true
-terms c = sym c.before.terms_hold_lem.ensures ∙ not-false c.before.terms_hold_lem.result c.if1.false
+terms : (c : tie.Else-not-terms_hold) → terms_hold c.before.before.args.g ≡ true
+terms c = sym c.before.terms_hold.ensures ∙ not-false c.before.terms_hold.result c.if-not-terms_hold.false-raw
 
-widths : (c : tie.Else2) → widths_hold c.before.before.before.before.args.g c.before.before.before.before.args.columns.now c.before.before.before.before.args.rows.now ≡ true
-widths c = sym c.before.widths_hold_lem.ensures ∙ not-false c.before.widths_hold_lem.result c.if2.false
+widths : (c : tie.Else-not-widths_hold) → widths_hold c.before.before.before.before.args.g c.before.before.before.before.args.columns.now c.before.before.before.before.args.rows.now ≡ true
+widths c = sym c.before.widths_hold.ensures ∙ not-false c.before.widths_hold.result c.if-not-widths_hold.false-raw
 
-returns : tie.Need-returns
+returns : tie.Need-returns-then-not-terms_hold
 unfolding contents_of first_refusal or_else
-returns c = rw (sym c.before.terms_hold_lem.ensures ∙ not-true c.before.terms_hold_lem.result c.if1.true)
+returns c = rw (sym c.before.terms_hold.ensures ∙ not-true c.before.terms_hold.result c.if-not-terms_hold.true-raw)
 
-returns-2 : tie.Need-returns-2
+returns-2 : tie.Need-returns-then-not-widths_hold
 unfolding contents_of first_refusal or_else
-returns-2 c = rw (terms c.before.before, sym c.before.widths_hold_lem.ensures ∙ not-true c.before.widths_hold_lem.result c.if2.true)
+returns-2 c = rw (terms c.before.before, sym c.before.widths_hold.ensures ∙ not-true c.before.widths_hold.result c.if-not-widths_hold.true-raw)
 
-returns-3 : tie.Need-returns-3
+returns-3 : tie.Need-returns-then-block-gt0
 unfolding contents_of first_refusal or_else
 returns-3 c =
     let w = c.before.before in
-    rw (terms w.before.before, widths w, ← c.before.first-fault.ensures) (blames_some 6 c.before.first-fault.result none (omega arith) c.if3.true)
+    rw (terms w.before.before, widths w, ← c.before.first_fault-block.ensures) (blames_some 6 c.before.first_fault-block.result none (omega arith) c.if-block-gt0.true)
 
-returns-4 : tie.Need-returns-4
+returns-4 : tie.Need-returns
 unfolding contents_of first_refusal or_else
 returns-4 c =
     let w = c.before.before in
-    rw (terms w.before.before, widths w, ← c.before.first-fault.ensures) (blames_on 6 c.before.first-fault.result none c.if3.false)
+    rw (terms w.before.before, widths w, ← c.before.first_fault-block.ensures) (blames_on 6 c.before.first_fault-block.result none c.if-block-gt0.false)
 
-pub contents-spec : {M : Type 1} → statement M
-contents-spec =
+pub contents_spec : {M : Type 1} → statement M
+contents_spec =
     tie.close
     (tie.spec
     (λ c κs. search rules)

@@ -9,19 +9,19 @@ use Rattle.grid.proofs.JudgingLaws.{counts_counted}
 use Rattle.slices.proofs.reaches_over.Statement.{statement}
 use Rattle.slices.proofs.reaches_over.Tie as tie
 
-counted : (c : tie.Then1) → Counted c.before.before.args.g
-counted c = counts_counted c.before.before.args.g (holds (sym c.before.counts-hold.ensures ∙ c.if1.true))
+counted : (c : tie.Then-counts_hold) → Counted c.before.before.args.g
+counted c = counts_counted c.before.before.args.g (holds (sym c.before.counts_hold.ensures ∙ c.if-counts_hold.true))
 
-mul-result : tie.Need-overflow-mul-result
+mul-result : tie.Need-overflow_mul-result
 mul-result c =
     let s = c.before.before.before in
-    rw c.blocks2.ensures (omega (arith, mul-le-mul s.requires (counted c.before).blocks_most))
+    rw c.blocks-then-counts_hold.ensures (omega (arith, mul-le-mul s.requires (counted c.before).blocks_most))
 
-returns : tie.Need-returns
-returns c = rw (c.blocks2.ensures, sym c.before.before.counts-hold.ensures ∙ c.before.if1.true)
+returns : tie.Need-returns-then-counts_hold
+returns c = rw (c.blocks-then-counts_hold.ensures, sym c.before.before.counts_hold.ensures ∙ c.before.if-counts_hold.true)
 
-returns-2 : tie.Need-returns-2
-returns-2 c = rw (sym c.before.counts-hold.ensures ∙ c.if1.false)
+returns-2 : tie.Need-returns
+returns-2 c = rw (sym c.before.counts_hold.ensures ∙ c.if-counts_hold.false)
 
-pub reaches-over-spec : {M : Type 1} → statement M
-reaches-over-spec = tie.close (tie.spec (λ c κs. search rules) (λ c κs. counted c) mul-result returns returns-2)
+pub reaches_over_spec : {M : Type 1} → statement M
+reaches_over_spec = tie.close (tie.spec (λ c κs. search rules) (λ c κs. counted c) mul-result returns returns-2)

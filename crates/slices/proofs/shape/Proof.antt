@@ -10,23 +10,23 @@ use Rattle.slices.specs.Slices.{or_else, first_refusal, shape_of}
 use Rattle.slices.proofs.shape.Statement.{statement}
 use Rattle.slices.proofs.shape.Tie as tie
 
-counts : (c : tie.Else1) → counts_hold c.before.before.args.g ≡ true
-counts c = sym c.before.counts-hold.ensures ∙ not-false c.before.counts-hold.result c.if1.false
+counts : (c : tie.Else-not-counts_hold) → counts_hold c.before.before.args.g ≡ true
+counts c = sym c.before.counts_hold.ensures ∙ not-false c.before.counts_hold.result c.if-not-counts_hold.false-raw
 
-returns : tie.Need-returns
+returns : tie.Need-returns-then-not-counts_hold
 unfolding shape_of first_refusal or_else
-returns c = rw (sym c.before.counts-hold.ensures ∙ not-true c.before.counts-hold.result c.if1.true)
+returns c = rw (sym c.before.counts_hold.ensures ∙ not-true c.before.counts_hold.result c.if-not-counts_hold.true-raw)
 
-room-holds-requires : tie.Need-room-holds-requires
+room-holds-requires : tie.Need-room_holds-requires
 room-holds-requires c κs = counts_counted c.before.before.args.g (holds (counts c))
 
-returns-2 : tie.Need-returns-2
+returns-2 : tie.Need-returns-then-not-room_holds
 unfolding shape_of first_refusal or_else
-returns-2 c = rw (counts c.before.before, sym c.before.room-holds.ensures ∙ not-true c.before.room-holds.result c.if2.true)
+returns-2 c = rw (counts c.before.before, sym c.before.room_holds.ensures ∙ not-true c.before.room_holds.result c.if-not-room_holds.true-raw)
 
-returns-3 : tie.Need-returns-3
+returns-3 : tie.Need-returns
 unfolding shape_of first_refusal or_else
-returns-3 c = rw (counts c.before.before, sym c.before.room-holds.ensures ∙ not-false c.before.room-holds.result c.if2.false)
+returns-3 c = rw (counts c.before.before, sym c.before.room_holds.ensures ∙ not-false c.before.room_holds.result c.if-not-room_holds.false-raw)
 
-pub shape-spec : {M : Type 1} → statement M
-shape-spec = tie.close (tie.spec (λ c κs. search rules) returns room-holds-requires returns-2 returns-3)
+pub shape_spec : {M : Type 1} → statement M
+shape_spec = tie.close (tie.spec (λ c κs. search rules) returns room-holds-requires returns-2 returns-3)

@@ -5,13 +5,13 @@ use Rattle.slices.specs.Slices.{widths_hold}
 use Rattle.slices.proofs.widths_hold.Statement.{statement}
 use Rattle.slices.proofs.widths_hold.Tie as tie
 
-returns : tie.Need-returns
+returns : tie.Need-returns-then-all_within
 unfolding widths_hold
-returns c = rw (sym c.before.before.all-within.ensures ∙ c.before.if1.true) c.all-within2.ensures
+returns c = rw (sym c.before.before.all_within.ensures ∙ c.before.if-all_within.true) c.all_within-then-all_within.ensures
 
-returns-2 : tie.Need-returns-2
+returns-2 : tie.Need-returns
 unfolding widths_hold
-returns-2 c = rw (sym c.before.all-within.ensures ∙ c.if1.false)
+returns-2 c = rw (sym c.before.all_within.ensures ∙ c.if-all_within.false)
 
-pub widths-hold-spec : {M : Type 1} → statement M
-widths-hold-spec = tie.close (tie.spec (λ c κs. search rules) (λ c κs. search rules) returns returns-2)
+pub widths_hold_spec : {M : Type 1} → statement M
+widths_hold_spec = tie.close (tie.spec (λ c κs. search rules) (λ c κs. search rules) returns returns-2)

@@ -15,22 +15,22 @@ use Rattle.block.proofs.density.interface.Statement.{statement}
 use Rattle.block.proofs.density.interface.Tie as tie
 
 -- the pair that was handed out
-weighed : (c : tie.After-weights-of) → Weighed c.weights-of.result
-weighed c = subst Weighed (sym c.weights-of.ensures) c.before.requires.0.weighed
+weighed : (c : tie.After-weights_of-w) → Weighed c.weights_of-w.result
+weighed c = subst Weighed (sym c.weights_of-w.ensures) c.before.requires.0.weighed
 
-mul-floor-div : tie.Need-overflow-mul-floor-div
+mul-floor-div : tie.Need-overflow_mul-w
 mul-floor-div c = fits (search (ranges, leaf (weighed c.before.before.before.before).salt) depth 20) tt
 
-mul-floor-div-2 : tie.Need-overflow-mul-floor-div-2
+mul-floor-div-2 : tie.Need-overflow_mul-w-2
 mul-floor-div-2 c = fits (search (ranges, leaf (weighed c.before.before.before.before.before.before.before.before).fresh) depth 20) tt
 
-sub-floor-div : tie.Need-overflow-sub-floor-div
+sub-floor-div : tie.Need-overflow_sub-w
 sub-floor-div c = let w = c.before.before.before.before.before.before.before.before in fits (search (ranges, leaf (weighed w).fresh, leaf (weighed w).salt) depth 20) tt
 
-sub-floor-div-2 : tie.Need-overflow-sub-floor-div-2
+sub-floor-div-2 : tie.Need-overflow_sub-w-2
 sub-floor-div-2 c = let w = c.before.before.before.before.before.before.before.before.before.before in fits (search (ranges, leaf (weighed w).fresh, leaf (weighed w).salt) depth 20) tt
 
-floor-div-requires : tie.Need-floor-div-requires
+floor-div-requires : tie.Need-floor_div-requires
 floor-div-requires c κs =
     let h = weighed c.before.before.before.before.before.before.before.before.before.before in
     rw (subtracted h.salt h.fresh tt tt tt) h.apart
@@ -46,8 +46,8 @@ unfolding interface_of
 returns c =
     let w = c.before.before.before.before.before.before.before.before.before.before.before in
     let h = weighed w in
-    rw (sym w.weights-of.ensures)
-    (answer c.floor-div.type-inv (c.floor-div.ensures ∙ ap₂ floor_of (dividend w.weights-of.result h w.before.args.heads w.before.requires.1) (subtracted h.salt h.fresh tt tt tt)))
+    rw (sym w.weights_of-w.ensures)
+    (answer c.floor_div.type_inv (c.floor_div.ensures ∙ ap₂ floor_of (dividend w.weights_of-w.result h w.before.args.heads w.before.requires.1) (subtracted h.salt h.fresh tt tt tt)))
 
-pub interface-spec : {M : Type 1} → statement M
-interface-spec = tie.close (tie.spec (λ c κs. search rules) mul-floor-div mul-floor-div-2 sub-floor-div sub-floor-div-2 floor-div-requires returns)
+pub interface_spec : {M : Type 1} → statement M
+interface_spec = tie.close (tie.spec (λ c κs. search rules) mul-floor-div mul-floor-div-2 sub-floor-div sub-floor-div-2 floor-div-requires returns)

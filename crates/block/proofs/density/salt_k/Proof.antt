@@ -8,20 +8,20 @@ use Rattle.block.proofs.density.salt_k.Statement.{statement}
 use Rattle.block.proofs.density.salt_k.Tie as tie
 
 -- the pair that was handed out
-weighed : (c : tie.After-weights-of) → Weighed c.weights-of.result
-weighed c = subst Weighed (sym c.weights-of.ensures) c.before.requires.0.weighed
+weighed : (c : tie.After-weights_of-w) → Weighed c.weights_of-w.result
+weighed c = subst Weighed (sym c.weights_of-w.ensures) c.before.requires.0.weighed
 
-mul-floor-div : tie.Need-overflow-mul-floor-div
+mul-floor-div : tie.Need-overflow_mul-k
 mul-floor-div c = fits (search (ranges, leaf (weighed c.before.before).salt) depth 20) tt
 
-floor-div-requires : tie.Need-floor-div-requires
+floor-div-requires : tie.Need-floor_div-requires
 floor-div-requires c κs = no_less (search (ranges, leaf (weighed c.before.before.before).fresh) depth 20) tt
 
 returns : tie.Need-returns
 unfolding salt_k_of
 returns c =
     let w = c.before.before.before.before in
-    rw (sym w.weights-of.ensures) (exact (search (ranges, b_is c.floor-div.ensures (search (ranges, leaf (weighed w).fresh, leaf (weighed w).salt) depth 20)) depth 20))
+    rw (sym w.weights_of-w.ensures) (exact (search (ranges, b_is c.floor_div.ensures (search (ranges, leaf (weighed w).fresh, leaf (weighed w).salt) depth 20)) depth 20))
 
-pub salt-k-spec : {M : Type 1} → statement M
-salt-k-spec = tie.close (tie.spec (λ c κs. search rules) mul-floor-div floor-div-requires returns)
+pub salt_k_spec : {M : Type 1} → statement M
+salt_k_spec = tie.close (tie.spec (λ c κs. search rules) mul-floor-div floor-div-requires returns)

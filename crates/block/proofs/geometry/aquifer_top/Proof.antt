@@ -8,5 +8,5 @@ returns : tie.Need-returns
 unfolding aquifer_top_of
 returns c = exact (search ranges depth 20)
 
-pub aquifer-top-spec : {M : Type 1} → statement M
-aquifer-top-spec = tie.close (tie.spec (λ c. fits (search ranges depth 20) tt) returns)
+pub aquifer_top_spec : {M : Type 1} → statement M
+aquifer_top_spec = tie.close (tie.spec (λ c. fits (search ranges depth 20) tt) returns)

@@ -11,11 +11,11 @@ returns : tie.Need-returns
 unfolding levels_of held_of
 returns c =
     let zeta = c.before.before.before.interface in
-    let saturated = c.before.before.before.before.saturated-top in
+    let saturated = c.before.before.before.before.saturated_top-saturated in
     let base = read c.before.before.before.before.before.requires.1.0.base tt in
-    let top = answer saturated.type-inv saturated.ensures in
-    let held = answer c.before.clamp.type-inv (c.before.clamp.ensures ∙ (λ i. clamp_of (base i) (top i) (answer zeta.type-inv zeta.ensures i))) in
+    let top = answer saturated.type_inv saturated.ensures in
+    let held = answer c.before.clamp-held.type_inv (c.before.clamp-held.ensures ∙ (λ i. clamp_of (base i) (top i) (answer zeta.type_inv zeta.ensures i))) in
     λ i. record { base = base i; interface = held i; top = top i }
 
-pub levels-of-spec : {M : Type 1} → statement M
-levels-of-spec = tie.close (tie.spec (λ c κs. search rules) (λ c κs. search rules) (λ c κs. search rules) returns)
+pub levels_of_spec : {M : Type 1} → statement M
+levels_of_spec = tie.close (tie.spec (λ c κs. search rules) (λ c κs. search rules) (λ c κs. search rules) returns)

@@ -5,10 +5,10 @@ use Rattle.block.proofs.BlockLaws.{levels_same}
 use Rattle.block.proofs.geometry.levels_on.Statement.{statement}
 use Rattle.block.proofs.geometry.levels_on.Tie as tie
 
-add-interface : tie.Need-overflow-add-interface
+add-interface : tie.Need-overflow_add-interface
 add-interface c = fits (search (ranges, leaf c.before.before.requires.0, leaf c.before.before.requires.1.of_salt) depth 20) tt
 
-add-t4 : tie.Need-overflow-add-t4
+add-t4 : tie.Need-overflow_add-result
 add-t4 c = fits (search (ranges, leaf c.before.before.before.before.requires.0, leaf c.before.before.before.before.requires.1.of_salt, leaf c.before.before.before.before.requires.1.of_fresh) depth 20) tt
 
 returns : tie.Need-returns
@@ -17,5 +17,5 @@ returns c =
     let h = c.before.before.before.before.requires in
     levels_same (read h.0 tt) (exact (search (ranges, leaf h.0, leaf h.1.of_salt) depth 20)) (exact (search (ranges, leaf h.0, leaf h.1.of_salt, leaf h.1.of_fresh) depth 20))
 
-pub levels-on-spec : {M : Type 1} → statement M
-levels-on-spec = tie.close (tie.spec add-interface add-t4 returns)
+pub levels_on_spec : {M : Type 1} → statement M
+levels_on_spec = tie.close (tie.spec add-interface add-t4 returns)

@@ -7,20 +7,20 @@ use Rattle.block.specs.Geometry.{saturated_top_of}
 use Rattle.block.proofs.geometry.saturated_top.Statement.{statement}
 use Rattle.block.proofs.geometry.saturated_top.Tie as tie
 
-returns : tie.Need-returns
+returns : tie.Need-returns-then-has_water_table
 unfolding saturated_top_of
 returns c =
-    let aquifer = c.before.before.before.aquifer-top in
+    let aquifer = c.before.before.before.aquifer_top in
     let s = c.before.before.before.before.before.before in
-    rw (sym c.before.before.before.before.before.has-water-table.ensures ∙ c.before.before.before.before.if1.true)
-    (answer c.clamp.type-inv (c.clamp.ensures ∙ (λ i. clamp_of (read s.requires.0.base tt i) (answer aquifer.type-inv aquifer.ensures i) (read s.requires.1.of_fresh tt i))))
+    rw (sym c.before.before.before.before.before.has_water_table.ensures ∙ c.before.before.before.before.if-has_water_table.true)
+    (answer c.clamp.type_inv (c.clamp.ensures ∙ (λ i. clamp_of (read s.requires.0.base tt i) (answer aquifer.type_inv aquifer.ensures i) (read s.requires.1.of_fresh tt i))))
 
-returns-2 : tie.Need-returns-2
+returns-2 : tie.Need-returns
 unfolding saturated_top_of
-returns-2 c = rw (sym c.before.before.has-water-table.ensures ∙ c.before.if1.false) (answer c.aquifer-top2.type-inv c.aquifer-top2.ensures)
+returns-2 c = rw (sym c.before.before.has_water_table.ensures ∙ c.before.if-has_water_table.false) (answer c.aquifer_top-2.type_inv c.aquifer_top-2.ensures)
 
-pub saturated-top-spec : {M : Type 1} → statement M
-saturated-top-spec =
+pub saturated_top_spec : {M : Type 1} → statement M
+saturated_top_spec =
     tie.close
     (tie.spec
     (λ c κs. search rules)

@@ -9,5 +9,5 @@ returns : tie.Need-returns
 unfolding thicknesses_of
 returns c = both_same (exact (search ranges depth 20)) (exact (search ranges depth 20))
 
-pub thicknesses-spec : {M : Type 1} → statement M
-thicknesses-spec = tie.close (tie.spec (λ c. fits (search ranges depth 20) tt) (λ c. fits (search ranges depth 20) tt) returns)
+pub thicknesses_spec : {M : Type 1} → statement M
+thicknesses_spec = tie.close (tie.spec (λ c. fits (search ranges depth 20) tt) (λ c. fits (search ranges depth 20) tt) returns)

@@ -7,10 +7,10 @@ use Rattle.block.proofs.storage.volume.Tie as tie
 
 returns : tie.Need-returns
 unfolding volume_of
-returns c = exact (search (ranges, b_is c.floor-div.ensures (search ranges depth 20)) depth 20)
+returns c = exact (search (ranges, b_is c.floor_div.ensures (search ranges depth 20)) depth 20)
 
-pub volume-spec : {M : Type 1} → statement M
-volume-spec =
+pub volume_spec : {M : Type 1} → statement M
+volume_spec =
     tie.close
     (tie.spec
     (λ c. fits (search ranges depth 20) tt)

@@ -11,16 +11,16 @@ upper c = b_is c.least.ensures (search ranges depth 20)
 lower : (c : tie.After-greatest) → Bounds c.greatest.result
 lower c = b_is c.greatest.ensures (search ranges depth 20)
 
-sub-greatest : tie.Need-overflow-sub-greatest
+sub-greatest : tie.Need-overflow_sub-least
 unfolding upper lower
 sub-greatest c = fits (search (ranges, upper c.before.before, lower c) depth 20) tt
 
 returns : tie.Need-returns
 unfolding length_within upper lower
-returns c = exact (search (ranges, b_is c.greatest2.ensures (search (ranges, upper c.before.before.before, lower c.before) depth 20)) depth 20)
+returns c = exact (search (ranges, b_is c.greatest-2.ensures (search (ranges, upper c.before.before.before, lower c.before) depth 20)) depth 20)
 
-pub length-within-spec : {M : Type 1} → statement M
-length-within-spec =
+pub length_within_spec : {M : Type 1} → statement M
+length_within_spec =
     tie.close
     (tie.spec
     (λ c κs. search rules)

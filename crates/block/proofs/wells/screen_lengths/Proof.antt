@@ -13,8 +13,8 @@ returns c =
     let b = c.before.before.before.before.before.before.args.block in
     let order = c.before.before.before.before.before.before.requires.1 in
     both_same
-    (answer c.before.before.before.length-within.type-inv (c.before.before.before.length-within.ensures ∙ (λ i. length_within b (read order.interface tt i) (read order.top tt i))))
-    (answer c.length-within2.type-inv (c.length-within2.ensures ∙ (λ i. length_within b (read order.base tt i) (read order.interface tt i))))
+    (answer c.before.before.before.length_within.type_inv (c.before.before.before.length_within.ensures ∙ (λ i. length_within b (read order.interface tt i) (read order.top tt i))))
+    (answer c.length_within-2.type_inv (c.length_within-2.ensures ∙ (λ i. length_within b (read order.base tt i) (read order.interface tt i))))
 
-pub screen-lengths-spec : {M : Type 1} → statement M
-screen-lengths-spec = tie.close (tie.spec (λ c κs. search rules) (λ c κs. search rules) returns)
+pub screen_lengths_spec : {M : Type 1} → statement M
+screen_lengths_spec = tie.close (tie.spec (λ c κs. search rules) (λ c κs. search rules) returns)
