@@ -5,13 +5,13 @@ use Rattle.fields.specs.Fields.{field_at}
 use Rattle.fields.proofs.field_at.Statement.{statement}
 use Rattle.fields.proofs.field_at.Tie as tie
 
-returns : tie.Need-returns
+returns : tie.Need-returns-then-is_sent
 unfolding field_at
-returns c = rw (sym c.before.before.is-sent.ensures ∙ c.before.if1.true) c.sent-at.ensures
+returns c = rw (sym c.is_sent.ensures ∙ c.if-is_sent.true) c.sent_at.ensures
 
-returns-2 : tie.Need-returns-2
+returns-2 : tie.Need-returns
 unfolding field_at
-returns-2 c = rw (sym c.before.is-sent.ensures ∙ c.if1.false) refl
+returns-2 c = rw (sym c.is_sent.ensures ∙ c.if-is_sent.false) refl
 
-pub field-at-spec : {M : Type 1} → statement M
-field-at-spec = tie.close (tie.spec (λ c κs. search rules) (λ c κs. search rules) returns returns-2)
+pub field_at_spec : {M : Type 1} → statement M
+field_at_spec = tie.close (tie.spec (λ c κs. search rules) (λ c κs. search rules) returns returns-2)

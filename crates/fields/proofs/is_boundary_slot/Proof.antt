@@ -3,11 +3,11 @@ use borrow.Author.Tests.{le-leb, lt-leb}
 use Rattle.fields.proofs.is_boundary_slot.Statement.{statement}
 use Rattle.fields.proofs.is_boundary_slot.Tie as tie
 
-returns : tie.Need-returns
-returns c = rw (le-leb 10 c.before.args.slot c.if1.true)
+returns : tie.Need-returns-then-slot-ge10
+returns c = rw (le-leb 10 c.args.slot c.if-slot-ge10.true)
 
-returns-2 : tie.Need-returns-2
-returns-2 c = rw (lt-leb 10 c.before.args.slot c.if1.false)
+returns-2 : tie.Need-returns-else-slot-ge10
+returns-2 c = rw (lt-leb 10 c.args.slot c.if-slot-ge10.false)
 
-pub is-boundary-slot-spec : {M : Type 1} → statement M
-is-boundary-slot-spec = tie.close (tie.spec returns returns-2)
+pub is_boundary_slot_spec : {M : Type 1} → statement M
+is_boundary_slot_spec = tie.close (tie.spec returns returns-2)

@@ -5,25 +5,25 @@ use Rattle.fields.specs.Fields.{is_sent}
 use Rattle.fields.proofs.is_sent.Statement.{statement}
 use Rattle.fields.proofs.is_sent.Tie as tie
 
-returns : tie.Need-returns
+returns : tie.Need-returns-in-Counts
 unfolding is_sent
-returns c = rw c.enum_told.given.1 refl
+returns c = rw c.in-Counts.is refl
 
-returns-2 : tie.Need-returns-2
+returns-2 : tie.Need-returns-in-Density
 unfolding is_sent
-returns-2 c = rw c.before.enum-told2.given.1 c.weight-sent.ensures
+returns-2 c = rw c.in-Density.is c.weight_sent.ensures
 
-returns-3 : tie.Need-returns-3
+returns-3 : tie.Need-returns-in-Terms
 unfolding is_sent
-returns-3 c = rw c.enum-told3.given.1 refl
+returns-3 c = rw c.in-Terms.is refl
 
-returns-4 : tie.Need-returns-4
+returns-4 : tie.Need-returns-in-Widths
 unfolding is_sent
-returns-4 c = rw c.enum-told4.given.1 refl
+returns-4 c = rw c.in-Widths.is refl
 
-returns-5 : tie.Need-returns-5
+returns-5 : tie.Need-returns-in-Slots
 unfolding is_sent
-returns-5 c = rw c.before.enum-told5.given.1 c.slot-sent.ensures
+returns-5 c = rw c.in-Slots.is c.slot_sent.ensures
 
-pub is-sent-spec : {M : Type 1} → statement M
-is-sent-spec = tie.close (tie.spec (λ c. search rules) (λ c. search rules) (λ c κs. search rules) (λ c. search rules) (λ c. search rules) (λ c. search rules) (λ c κs. search rules) returns returns-2 returns-3 returns-4 returns-5)
+pub is_sent_spec : {M : Type 1} → statement M
+is_sent_spec = tie.close (tie.spec (λ c. search rules) (λ c. search rules) (λ c κs. search rules) (λ c. search rules) (λ c. search rules) (λ c. search rules) (λ c κs. search rules) returns returns-2 returns-3 returns-4 returns-5)

@@ -8,16 +8,16 @@ use Rattle.fields.proofs.judged_in.Statement.{statement}
 use Rattle.fields.proofs.judged_in.Tie as tie
 
 -- the test is of the number itself
-told : (c : tie.After-in-range) → c.in-range.result ≡ in_range c.before.args.ends c.before.args.value
-told c = c.in-range.ensures ∙ ap (in_range c.before.args.ends) (to_z-of_z c.before.ranges.value)
+told : (c : tie.After-in_range) → c.in_range.result ≡ in_range c.args.ends c.args.value
+told c = c.in_range.ensures ∙ ap (in_range c.args.ends) (to_z-of_z c.ranges.value)
 
-returns : tie.Need-returns
+returns : tie.Need-returns-then-in_range
 unfolding judged_in
-returns c = rw (sym (told c.before) ∙ c.if1.true, to_z-of_z c.before.before.ranges.value) refl
+returns c = rw (sym (told c.before) ∙ c.if-in_range.true, to_z-of_z c.ranges.value) refl
 
-returns-2 : tie.Need-returns-2
+returns-2 : tie.Need-returns
 unfolding judged_in
-returns-2 c = rw (sym (told c.before) ∙ c.if1.false) refl
+returns-2 c = rw (sym (told c.before) ∙ c.if-in_range.false) refl
 
-pub judged-in-spec : {M : Type 1} → statement M
-judged-in-spec = tie.close (tie.spec (λ c κs. search rules) returns returns-2)
+pub judged_in_spec : {M : Type 1} → statement M
+judged_in_spec = tie.close (tie.spec (λ c κs. search rules) returns returns-2)

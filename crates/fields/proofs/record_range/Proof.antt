@@ -8,13 +8,13 @@ use Rattle.fields.specs.Fields.{record_range, record_ranges}
 use Rattle.fields.proofs.record_range.Statement.{statement}
 use Rattle.fields.proofs.record_range.Tie as tie
 
-returns : tie.Need-returns
+returns : tie.Need-returns-then-n-lt-RECORD_NUMBERS
 unfolding record_range
 returns c = refl
 
-returns-2 : tie.Need-returns-2
+returns-2 : tie.Need-returns-else-n-lt-RECORD_NUMBERS
 unfolding record_range
-returns-2 c = sym (get_or-eq_default record_ranges (between (pos 0) (pos 0)) c.if1.false)
+returns-2 c = sym (get_or-eq_default record_ranges (between (pos 0) (pos 0)) c.if-n-lt-RECORD_NUMBERS.false)
 
-pub record-range-spec : {M : Type 1} → statement M
-record-range-spec = tie.close (tie.spec (λ c. search rules) (λ c. search rules) returns returns-2)
+pub record_range_spec : {M : Type 1} → statement M
+record_range_spec = tie.close (tie.spec (λ c. search rules) (λ c. search rules) returns returns-2)

@@ -7,28 +7,27 @@ use Rattle.fields.specs.Fields.{judged_in, number_judged, meant_of}
 use Rattle.fields.proofs.sent_at.Statement.{statement}
 use Rattle.fields.proofs.sent_at.Tie as tie
 
-meant-requires : tie.Need-meant-requires
-meant-requires c κs = (number_bounded _ _ _ _ (sym c.before.before.before.before.before.read_number.ensures ∙ c.before.before.before.value.given.1)).below
+meant-requires : tie.Need-meant-means-requires
+meant-requires c κs = (number_bounded _ _ _ _ (sym c.read_number.ensures ∙ c.in-Value.is)).below
 
-returns : tie.Need-returns
+returns : tie.Need-returns-in-Ended
 unfolding number_judged
-returns c = rw (sym c.before.before.read_number.ensures ∙ c.enum_told.given.1) refl
+returns c = rw (sym c.read_number.ensures ∙ c.in-Ended.is) refl
 
-returns-2 : tie.Need-returns-2
+returns-2 : tie.Need-returns-in-TooLong
 unfolding number_judged
-returns-2 c = rw (sym c.before.before.read_number.ensures ∙ c.enum-told2.given.1) refl
+returns-2 c = rw (sym c.read_number.ensures ∙ c.in-TooLong.is) refl
 
-returns-3 : tie.Need-returns-3
+returns-3 : tie.Need-returns-in-Value
 unfolding number_judged
 returns-3 c =
-    let value = c.before.before.before.before.before.before.value.given in
-    let ends = c.before.before.before.before.ends_of.ensures in
-    rw (sym c.before.before.before.before.before.before.before.before.read_number.ensures ∙ value.1)
-    (c.judged_in_lem.ensures
-    ∙ (λ i. judged_in (answer c.before.before.meant.type-inv (c.before.before.meant.ensures ∙ ap (λ l. meant_of l value.0.0) (answer c.before.before.before.struct_told.given.0.1 (ap (λ r. r.lower) ends))) i) value.0.1.0 (ends i) (c.before.part-refusal.ensures i)))
+    let ends = c.ends_of-ends.ensures in
+    rw (sym c.read_number.ensures ∙ c.in-Value.is)
+    (c.judged_in.ensures
+    ∙ (λ i. judged_in (answer c.meant-means.type_inv (c.meant-means.ensures ∙ ap (λ l. meant_of l c.in-Value.value) (answer c.struct_told-1.given.0.1 (ap (λ r. r.lower) ends))) i) c.in-Value.next (ends i) (c.part_refusal.ensures i)))
 
-pub sent-at-spec : {M : Type 1} → statement M
-sent-at-spec =
+pub sent_at_spec : {M : Type 1} → statement M
+sent_at_spec =
     tie.close
     (tie.spec
     (λ c κs. search rules)

@@ -4,11 +4,11 @@ use Rattle.metres.proofs.ShownLaws.{castable, metres_is}
 use Rattle.metres.proofs.metres_of.Statement.{statement}
 use Rattle.metres.proofs.metres_of.Tie as tie
 
-int-to-float-result : tie.Need-int-to-float-result
-int-to-float-result c = castable c.before.args.tick _ (to_z-of_z c.before.ranges.tick) c.before.requires
+int-to-float-result : tie.Need-int_to_float-result
+int-to-float-result c = castable c.args.tick _ (to_z-of_z c.ranges.tick) c.requires
 
 returns : tie.Need-returns
-returns c = metres_is c.before.args.tick _ (to_z-of_z c.before.ranges.tick) c.before.requires
+returns c = metres_is c.args.tick _ (to_z-of_z c.ranges.tick) c.requires
 
-pub metres-of-spec : {M : Type 1} → statement M
-metres-of-spec = tie.close (tie.spec int-to-float-result returns)
+pub metres_of_spec : {M : Type 1} → statement M
+metres_of_spec = tie.close (tie.spec int-to-float-result returns)

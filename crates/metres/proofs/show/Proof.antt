@@ -11,19 +11,19 @@ use Rattle.metres.proofs.AnswersLaws.{is_shown_lem, not_shown, ranged}
 use Rattle.metres.proofs.show.Statement.{statement}
 use Rattle.metres.proofs.show.Tie as tie
 
-metres-of-requires : tie.Need-metres-of-requires
+metres-of-requires : tie.Need-metres_of-requires
 metres-of-requires c κs =
-    let s = c.before.before in
-    rw (to_z-of_z s.ranges.tick) (range_in (between (neg_ℤ (pos most_shown)) (pos most_shown)) s.args.tick (holds (ranged _ refl (to_z-of_z s.ranges.tick) c.before.in-range.ensures c.if1.true)))
+    let s = c in
+    rw (to_z-of_z s.ranges.tick) (range_in (between (neg_ℤ (pos most_shown)) (pos most_shown)) s.args.tick (holds (ranged _ refl (to_z-of_z s.ranges.tick) c.in_range.ensures c.if-in_range.true)))
 
-returns : tie.Need-returns
+returns : tie.Need-returns-then-in_range
 returns c =
-    let s = c.before.before.before in
+    let s = c in
     let back = to_z-of_z s.ranges.tick in
-    is_shown_lem s.args.tick c.metres-of.result (ranged _ refl back c.before.before.in-range.ensures c.before.if1.true) (c.metres-of.ensures ∙ ap metres_of back)
+    is_shown_lem s.args.tick c.metres_of.result (ranged _ refl back c.in_range.ensures c.if-in_range.true) (c.metres_of.ensures ∙ ap metres_of back)
 
-returns-2 : tie.Need-returns-2
-returns-2 c = not_shown c.before.before.args.tick (ranged _ refl (to_z-of_z c.before.before.ranges.tick) c.before.in-range.ensures c.if1.false)
+returns-2 : tie.Need-returns
+returns-2 c = not_shown c.args.tick (ranged _ refl (to_z-of_z c.ranges.tick) c.in_range.ensures c.if-in_range.false)
 
-pub show-spec : {M : Type 1} → statement M
-show-spec = tie.close (tie.spec (λ c κs. search rules) metres-of-requires returns returns-2)
+pub show_spec : {M : Type 1} → statement M
+show_spec = tie.close (tie.spec (λ c κs. search rules) metres-of-requires returns returns-2)

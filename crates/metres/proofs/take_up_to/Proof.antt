@@ -20,35 +20,35 @@ x s = s.args.metres
 
 -- what owning a double tells: the format holds it
 owned : (s : tie.Start) → T (fits binary64 (x s))
-owned s = holds s.well-formed.0.1
+owned s = holds s.well_formed.0.1
 
-returns : tie.Need-returns
-returns c = refused_nan c.before.args.most (x c.before) c.if1.true
+returns : tie.Need-returns-then-metres
+returns c = refused_nan c.args.most (x c.before) c.if-metres.true
 
-float-to-bits-bits : tie.Need-float-to-bits-bits
-float-to-bits-bits c = no_nan (x c.before) c.if1.false
+float-to-bits-bits : tie.Need-float_to_bits-bits
+float-to-bits-bits c = no_nan (x c.before) c.if-metres.false
 
-returns-2 : tie.Need-returns-2
-returns-2 c = refused_far c.before.before.before.args.most (x c.before.before.before) (owned c.before.before.before) c.before.before.before.requires (rw c.before.exponent-of.ensures at c.if2.true)
+returns-2 : tie.Need-returns-then-exponent_of-ge-FAR
+returns-2 c = refused_far c.args.most (x c.before.before.before) (owned c.before.before.before) c.requires (rw c.exponent_of.ensures at c.if-exponent_of-ge-FAR.true)
 
-tick-of-requires : tie.Need-tick-of-requires
-tick-of-requires c κs = rw c.before.exponent-of.ensures at c.if2.false
+tick-of-requires : tie.Need-tick_of-tick-requires
+tick-of-requires c κs = rw c.exponent_of.ensures at c.if-exponent_of-ge-FAR.false
 
 -- the range's upper end and the tick, as the machine reads them back
-tested : (c : tie.After-in-range) {b : Bool} → c.in-range.result ≡ b → passes c.before.before.before.before.before.args.most c.before.tick-of.result ≡ b
+tested : (c : tie.After-in_range) {b : Bool} → c.in_range.result ≡ b → passes c.args.most c.tick_of-tick.result ≡ b
 tested c e =
-    ranged (between (neg_ℤ (pos most_level)) c.before.before.before.before.before.args.most) (λ i. between (neg_ℤ (pos most_level)) (to_z-of_z c.before.before.before.before.before.ranges.most i)) (read_back c.before.tick-of.result c.before.tick-of.type-inv) c.in-range.ensures e
+    ranged (between (neg_ℤ (pos most_level)) c.args.most) (λ i. between (neg_ℤ (pos most_level)) (to_z-of_z c.ranges.most i)) (read_back c.tick_of-tick.result c.tick_of-tick.type_inv) c.in_range.ensures e
 
-returns-3 : tie.Need-returns-3
+returns-3 : tie.Need-returns-then-in_range
 returns-3 c =
     let s = c.before.before.before.before.before.before in
-    let z = c.before.before.tick-of.result in
-    taken_in s.args.most (x s) (owned s) (rw c.before.before.before.before.exponent-of.ensures at c.before.before.before.if2.false) z c.before.before.tick-of.ensures (tested c.before c.if3.true) _ (read_back z c.before.before.tick-of.type-inv)
+    let z = c.tick_of-tick.result in
+    taken_in s.args.most (x s) (owned s) (rw c.exponent_of.ensures at c.if-exponent_of-ge-FAR.false) z c.tick_of-tick.ensures (tested c.before c.if-in_range.true) _ (read_back z c.tick_of-tick.type_inv)
 
-returns-4 : tie.Need-returns-4
+returns-4 : tie.Need-returns
 returns-4 c =
     let s = c.before.before.before.before.before.before in
-    refused_outside s.args.most (x s) (owned s) (rw c.before.before.before.before.exponent-of.ensures at c.before.before.before.if2.false) c.before.before.tick-of.result c.before.before.tick-of.ensures (tested c.before c.if3.false)
+    refused_outside s.args.most (x s) (owned s) (rw c.exponent_of.ensures at c.if-exponent_of-ge-FAR.false) c.tick_of-tick.result c.tick_of-tick.ensures (tested c.before c.if-in_range.false)
 
-pub take-up-to-spec : {M : Type 1} → statement M
-take-up-to-spec = tie.close (tie.spec returns float-to-bits-bits (λ c κs. search rules) returns-2 tick-of-requires (λ c. search rules) (λ c κs. search rules) returns-3 returns-4)
+pub take_up_to_spec : {M : Type 1} → statement M
+take_up_to_spec = tie.close (tie.spec returns float-to-bits-bits (λ c κs. search rules) returns-2 tick-of-requires (λ c. search rules) (λ c κs. search rules) returns-3 returns-4)

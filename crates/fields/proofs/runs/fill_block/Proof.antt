@@ -10,9 +10,9 @@ use Rattle.fields.proofs.runs.fill_block.Tie as tie
 returns : tie.Need-returns
 unfolding block_from
 returns c =
-    let a = c.before.before.before.before.before.before.args in
-    let f = c.before.before.before.fill.ensures in
+    let a = c.args in
+    let f = c.fill-run.ensures in
     (c.rule.ensures ∙ (λ i. ruled (f.0 i) a.block (slots_hold (f.1 i) a.top)) ∙ ruled_front a.from a.file.now a.block a.top a.out.now, f.1)
 
-pub fill-block-spec : {M : Type 1} → statement M
-fill-block-spec = tie.close (tie.spec (λ c κs. search rules) (λ c κs. search rules) (λ c. search rules) returns)
+pub fill_block_spec : {M : Type 1} → statement M
+fill_block_spec = tie.close (tie.spec (λ c κs. search rules) (λ c κs. search rules) (λ c. search rules) returns)

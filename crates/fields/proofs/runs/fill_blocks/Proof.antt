@@ -12,32 +12,32 @@ use Rattle.fields.proofs.FilledLaws.{block_next, block_put}
 use Rattle.fields.proofs.runs.fill_blocks.Statement.{statement}
 use Rattle.fields.proofs.runs.fill_blocks.Tie as tie
 
-abbrev invariant-loop : tie.invariant-loop
+abbrev invariant-loop : tie.invariant-loop-block
 invariant-loop file g out₀ run₀ total block₀ out run block =
     (block ≤ total) × ((length out ≡ length out₀) × ((run ≡ (blocks_from run₀ g file block).run) × (out ≡ over (blocks_from run₀ g file block).values out₀)))
 
-abbrev decreases-loop : tie.decreases-loop
+abbrev decreases-loop : tie.decreases-loop-block
 decreases-loop file g out₀ run₀ total block₀ out run block = total - block
 
-loop-holds : tie.Need-loop-init invariant-loop decreases-loop
+loop-holds : tie.Need-loop-block-init invariant-loop decreases-loop
 unfolding blocks_from
 loop-holds c = (omega arith, (refl, (refl, refl)))
 
-fill-block-requires : tie.Need-fill-block-requires invariant-loop decreases-loop
-fill-block-requires c κs = let l = c.before.before.before.loop in rw (rest_all (16 * l.block) l.out) (simp length-drop (omega arith))
+fill-block-requires : tie.Need-fill_block-next-requires invariant-loop decreases-loop
+fill-block-requires c κs = let l = c.loop-block in rw (rest_all (16 * l.block) l.out) (simp length-drop (omega arith))
 
-loop-again : tie.Need-loop-preserved invariant-loop decreases-loop
+loop-again : tie.Need-loop-block-preserved invariant-loop decreases-loop
 loop-again c =
-    let l = c.before.before.before.before.before.loop in
-    let a = c.before.before.before.before.before.before.before.before.args in
+    let l = c.loop-block in
+    let a = c.args in
     let n = 16 * l.block in
-    let f = c.before.fill-block.ensures in
+    let f = c.fill_block-next.ensures in
     let run = l.invariant.1.1.0 in
     let out = l.invariant.1.1.1 in
-    let top = c.before.before.before.is-top.ensures in (
+    let top = c.is_top.ensures in (
       omega arith,
       (
-        same_len_mid n (length l.out - n) l.out c.before.fill-block.new.1.1.1.1.0 c.before.fill-block.auto.1.1.1.1.0 ∙ l.invariant.1.0,
+        same_len_mid n (length l.out - n) l.out c.fill_block-next.new.1.1.1.1.0 c.fill_block-next.auto.1.1.1.1.0 ∙ l.invariant.1.0,
         (
           f.0 ∙ (λ i. (block_from (run i) a.file.now (l.block + 1) (top i)).run) ∙ block_next a.from a.g a.file.now l.block,
           (λ i. put_mid n (length l.out - n) l.out (f.1 i))
@@ -49,21 +49,21 @@ loop-again c =
 
 returns : tie.Need-returns invariant-loop decreases-loop
 returns c =
-    let l = c.before.loop in
-    let e : l.block ≡ blocks_of c.before.before.before.before.args.g = omega arith in
+    let l = c.loop-block in
+    let e : l.block ≡ blocks_of c.args.g = omega arith in
     rw (← e) l.invariant.1.1
 
-pub fill-blocks-spec : {M : Type 1} → statement M
-fill-blocks-spec =
+pub fill_blocks_spec : {M : Type 1} → statement M
+fill_blocks_spec =
     tie.close
     (tie.spec
     invariant-loop
     decreases-loop
-    (λ c κs. c.before.requires.0)
+    (λ c κs. c.requires.0)
     loop-holds
     (λ c. omega arith)
     (λ c. omega arith)
-    (λ c κs. (c.before.before.before.before.requires.0, omega arith))
+    (λ c κs. (c.requires.0, omega arith))
     (λ c. omega arith)
     (λ c. omega arith)
     (λ c. omega arith)
@@ -72,5 +72,5 @@ fill-blocks-spec =
     (λ c. omega arith)
     (λ c. omega arith)
     loop-again
-    (λ c. c.before.loop.invariant.1.0)
+    (λ c. c.loop-block.invariant.1.0)
     returns)

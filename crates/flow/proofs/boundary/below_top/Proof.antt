@@ -7,15 +7,15 @@ use Rattle.flow.specs.Boundary.{below_top}
 use Rattle.flow.proofs.boundary.below_top.Statement.{statement}
 use Rattle.flow.proofs.boundary.below_top.Tie as tie
 
-returns : tie.Need-returns
+returns : tie.Need-returns-then-has_water_table
 unfolding below_top
 returns c =
-    let aquifer = c.before.before.aquifer-top in
-    rw (sym c.before.before.before.before.has-water-table.ensures ∙ c.before.before.before.if1.taken) (ap₂ lt_z (read c.before.before.before.before.before.pre.new_fresh tt) (answer aquifer.ok aquifer.ensures))
+    let aquifer = c.aquifer_top in
+    rw (sym c.has_water_table.ensures ∙ c.if-has_water_table.true) (ap₂ lt_z (read c.requires.new_fresh tt) (answer aquifer.type_inv aquifer.ensures))
 
-returns-2 : tie.Need-returns-2
+returns-2 : tie.Need-returns
 unfolding below_top
-returns-2 c = rw (sym c.before.has-water-table.ensures ∙ c.if1.left)
+returns-2 c = rw (sym c.has_water_table.ensures ∙ c.if-has_water_table.false)
 
-pub below-top-spec : {M : Type 1} → statement M
-below-top-spec = tie.close (tie.spec (λ c κs. search rules) (λ c κs. search rules) returns returns-2)
+pub below_top_spec : {M : Type 1} → statement M
+below_top_spec = tie.close (tie.spec (λ c κs. search rules) (λ c κs. search rules) returns returns-2)

@@ -17,51 +17,51 @@ use Rattle.flow.proofs.LitresLaws.{over_area_in}
 use Rattle.flow.proofs.boundary.exchange.Statement.{statement}
 use Rattle.flow.proofs.boundary.exchange.Tie as tie
 
-over-area-requires : tie.Need-over-area-requires
+over-area-requires : tie.Need-over_area-through-requires
 over-area-requires c κs = (within (search ranges depth 20) tt tt, within (search ranges depth 20) tt tt)
 
-area-told : (c : tie.After-over-area) → to_z w64 (of_z w64 c.over-area.result) ≡ over_area_of c.before.before.args.block.boundary_leakance c.before.before.args.area
-area-told c = answer c.over-area.type-inv (c.over-area.ensures ∙ ap₂ over_area_of (read c.before.before.requires.1.0.boundary_leakance tt) (read c.before.before.requires.1.1.0 tt))
+area-told : (c : tie.After-over_area-through) → to_z w64 (of_z w64 c.over_area-through.result) ≡ over_area_of c.args.block.boundary_leakance c.args.area
+area-told c = answer c.over_area-through.type_inv (c.over_area-through.ensures ∙ ap₂ over_area_of (read c.requires.1.0.boundary_leakance tt) (read c.requires.1.1.0 tt))
 
-top-told : (c : tie.After-aquifer-top) → to_z w64 (of_z w64 c.aquifer-top.result) ≡ aquifer_top_of c.before.before.before.before.args.block
-top-told c = answer c.aquifer-top.type-inv c.aquifer-top.ensures
+top-told : (c : tie.After-aquifer_top) → to_z w64 (of_z w64 c.aquifer_top.result) ≡ aquifer_top_of c.args.block
+top-told c = answer c.aquifer_top.type_inv c.aquifer_top.ensures
 
-fresh-head-requires : tie.Need-fresh-head-requires
+fresh-head-requires : tie.Need-fresh_head-own-requires
 fresh-head-requires c κs =
-    let s = c.before.before.before.before in
-    (s.requires.0, (rw c.before.new-heads.ensures (new_heads_in s.args.block s.requires.1.0), rw (top-told c) (aquifer_top_in s.args.block s.requires.1.0)))
+    let s = c in
+    (s.requires.0, (rw c.new_heads.ensures (new_heads_in s.args.block s.requires.1.0), rw (top-told c) (aquifer_top_in s.args.block s.requires.1.0)))
 
-own-told : (c : tie.After-fresh-head) → c.fresh-head.result ≡ fresh_head_of c.before.before.before.before.before.args.g (new_heads c.before.before.before.before.before.args.block) c.before.before.before.before.before.args.upper (aquifer_top_of c.before.before.before.before.before.args.block)
-own-told c = c.fresh-head.ensures ∙ (λ i. fresh_head_of c.before.before.before.before.before.args.g (c.before.before.new-heads.ensures i) c.before.before.before.before.before.args.upper (top-told c.before i))
+own-told : (c : tie.After-fresh_head-own) → c.fresh_head-own.result ≡ fresh_head_of c.args.g (new_heads c.args.block) c.args.upper (aquifer_top_of c.args.block)
+own-told c = c.fresh_head-own.ensures ∙ (λ i. fresh_head_of c.args.g (c.new_heads.ensures i) c.args.upper (top-told c.before i))
 
 -- both heads, with their ranges
-own : (c : tie.After-fresh-head) → Bounds c.fresh-head.result
+own : (c : tie.After-fresh_head-own) → Bounds c.fresh_head-own.result
 own c =
-    let s = c.before.before.before.before.before in
+    let s = c in
     let b = s.args.block in
     b_eq (own-told c) (fresh_head_in s.args.g (new_heads b) s.args.upper (aquifer_top_of b) s.requires.0 (new_heads_in b s.requires.1.0) (aquifer_top_in b s.requires.1.0))
 
-head : (c : tie.After-boundary-head) → Bounds c.boundary-head.result
-head c = b_eq c.boundary-head.ensures (boundary_head_in c.before.before.before.before.before.before.args.g c.before.before.before.before.before.before.args.block c.before.before.before.before.before.before.requires.0 c.before.before.before.before.before.before.requires.1.0)
+head : (c : tie.After-boundary_head) → Bounds c.boundary_head.result
+head c = b_eq c.boundary_head.ensures (boundary_head_in c.args.g c.args.block c.requires.0 c.requires.1.0)
 
-sub-litres : tie.Need-overflow-sub-litres
+sub-litres : tie.Need-overflow_sub-boundary_head
 unfolding own head
 sub-litres c = fits (search (ranges, head c, own c.before) depth 20) tt
 
 litres-requires : tie.Need-litres-requires
 unfolding own head
 litres-requires c κs =
-    let s = c.before.before.before.before.before.before in (
+    let s = c in (
       rw (area-told c.before.before.before.before) (record { low = (over_area_in s.args.block.boundary_leakance s.args.area s.requires.1.0.boundary_leakance s.requires.1.1.0).low; high = s.requires.1.1.1 }),
       within (search (ranges, head c, own c.before) depth 20) tt tt,
     )
 
 returns : tie.Need-returns
 unfolding exchange_of own head
-returns c = answer c.litres.type-inv (c.litres.ensures ∙ ap₂ litres_of (area-told c.before.before.before.before.before) (exact (search (ranges, head c.before, own c.before.before) depth 20)))
+returns c = answer c.litres.type_inv (c.litres.ensures ∙ ap₂ litres_of (area-told c.before.before.before.before.before) (exact (search (ranges, head c.before, own c.before.before) depth 20)))
 
-pub exchange-spec : {M : Type 1} → statement M
-exchange-spec =
+pub exchange_spec : {M : Type 1} → statement M
+exchange_spec =
     tie.close
     (tie.spec
     over-area-requires

@@ -6,17 +6,17 @@ use Rattle.flow.specs.Boundary.{exchanged_as}
 use Rattle.flow.proofs.boundary.exchanged_as.Statement.{statement}
 use Rattle.flow.proofs.boundary.exchanged_as.Tie as tie
 
-returns : tie.Need-returns
+returns : tie.Need-returns-then-flow-gt0
 unfolding exchanged_as
-returns c = rw (sym c.before.before.is-sea.ensures ∙ c.before.if1.true, ← to_z-of_z c.before.before.before.ranges.flow, c.if2.true)
+returns c = rw (sym c.is_sea.ensures ∙ c.if-is_sea.true, ← to_z-of_z c.ranges.flow, c.if-flow-gt0.true)
 
-returns-2 : tie.Need-returns-2
+returns-2 : tie.Need-returns-else-flow-gt0
 unfolding exchanged_as
-returns-2 c = rw (sym c.before.before.is-sea.ensures ∙ c.before.if1.true, ← to_z-of_z c.before.before.before.ranges.flow, c.if2.false)
+returns-2 c = rw (sym c.is_sea.ensures ∙ c.if-is_sea.true, ← to_z-of_z c.ranges.flow, c.if-flow-gt0.false)
 
-returns-3 : tie.Need-returns-3
+returns-3 : tie.Need-returns-else-is_sea
 unfolding exchanged_as
-returns-3 c = rw (sym c.before.is-sea.ensures ∙ c.if1.false)
+returns-3 c = rw (sym c.is_sea.ensures ∙ c.if-is_sea.false)
 
-pub exchanged-as-spec : {M : Type 1} → statement M
-exchanged-as-spec = tie.close (tie.spec (λ c κs. search rules) returns returns-2 returns-3)
+pub exchanged_as_spec : {M : Type 1} → statement M
+exchanged_as_spec = tie.close (tie.spec (λ c κs. search rules) returns returns-2 returns-3)

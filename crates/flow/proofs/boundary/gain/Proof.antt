@@ -9,16 +9,16 @@ use Rattle.flow.specs.Boundary.{exchanged_as, gain_of}
 use Rattle.flow.proofs.boundary.gain.Statement.{statement}
 use Rattle.flow.proofs.boundary.gain.Tie as tie
 
-fluid-told : (c : tie.After-exchanged-as) → c.exchanged-as.result ≡ exchanged_as c.before.args.block c.before.args.upper c.before.args.flow
-fluid-told c = c.exchanged-as.ensures ∙ ap (exchanged_as c.before.args.block c.before.args.upper) (to_z-of_z c.before.ranges.flow)
+fluid-told : (c : tie.After-exchanged_as) → c.exchanged_as.result ≡ exchanged_as c.args.block c.args.upper c.args.flow
+fluid-told c = c.exchanged_as.ensures ∙ ap (exchanged_as c.args.block c.args.upper) (to_z-of_z c.ranges.flow)
 
-returns : tie.Need-returns
+returns : tie.Need-returns-then-exchanged_as-fluid
 unfolding gain_of
-returns c = rw (← fluid-told c.before, eq-eqb c.before.exchanged-as.result c.before.before.args.fluid c.if1.true) (to_z-of_z c.before.before.ranges.flow)
+returns c = rw (← fluid-told c.before, eq-eqb c.exchanged_as.result c.args.fluid c.if-exchanged_as-fluid.true) (to_z-of_z c.ranges.flow)
 
-returns-2 : tie.Need-returns-2
+returns-2 : tie.Need-returns-else-exchanged_as-fluid
 unfolding gain_of
-returns-2 c = rw (← fluid-told c.before, ne_eqb c.before.exchanged-as.result c.before.before.args.fluid c.if1.false)
+returns-2 c = rw (← fluid-told c.before, ne_eqb c.exchanged_as.result c.args.fluid c.if-exchanged_as-fluid.false)
 
-pub gain-spec : {M : Type 1} → statement M
-gain-spec = tie.close (tie.spec (λ c κs. search rules) returns returns-2)
+pub gain_spec : {M : Type 1} → statement M
+gain_spec = tie.close (tie.spec (λ c κs. search rules) returns returns-2)

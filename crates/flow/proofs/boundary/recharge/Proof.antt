@@ -9,23 +9,23 @@ use Rattle.flow.specs.Litres.{over_area_of}
 use Rattle.flow.proofs.boundary.recharge.Statement.{statement}
 use Rattle.flow.proofs.boundary.recharge.Tie as tie
 
-over-area-requires : tie.Need-over-area-requires
+over-area-requires : tie.Need-over_area-requires
 over-area-requires c κs = (within (search ranges depth 20) tt tt, within (search ranges depth 20) tt tt)
 
-returns : tie.Need-returns
+returns : tie.Need-returns-then-below_top
 unfolding recharge_of
 returns c =
-    let s = c.before.before.before.before.before in
-    rw (c.before.before.before.before.if1.true, sym c.before.before.before.below_top.ensures ∙ c.before.before.if2.true)
-    (answer c.over-area.type-inv (c.over-area.ensures ∙ ap₂ over_area_of (read s.requires.0.recharge tt) (read s.requires.1 tt)))
+    let s = c in
+    rw (c.if-fluid-eq-FRESH.true, sym c.below_top.ensures ∙ c.if-below_top.true)
+    (answer c.over_area.type_inv (c.over_area.ensures ∙ ap₂ over_area_of (read s.requires.0.recharge tt) (read s.requires.1 tt)))
 
-returns-2 : tie.Need-returns-2
+returns-2 : tie.Need-returns-else-below_top
 unfolding recharge_of
-returns-2 c = rw (c.before.before.if1.true, sym c.before.below_top.ensures ∙ c.if2.false)
+returns-2 c = rw (c.if-fluid-eq-FRESH.true, sym c.below_top.ensures ∙ c.if-below_top.false)
 
-returns-3 : tie.Need-returns-3
+returns-3 : tie.Need-returns-else-fluid-eq-FRESH
 unfolding recharge_of
-returns-3 c = rw (ne_eqb c.before.args.fluid fresh c.if1.false)
+returns-3 c = rw (ne_eqb c.args.fluid fresh c.if-fluid-eq-FRESH.false)
 
-pub recharge-spec : {M : Type 1} → statement M
-recharge-spec = tie.close (tie.spec (λ c κs. search rules) over-area-requires returns returns-2 returns-3)
+pub recharge_spec : {M : Type 1} → statement M
+recharge_spec = tie.close (tie.spec (λ c κs. search rules) over-area-requires returns returns-2 returns-3)

@@ -17,28 +17,28 @@ apart : (c : tie.Start) → to_z w64 (of_z w64 (to_z w64 (of_z w64 c.args.low) -
 apart c = exact (search (ranges, leaf c.requires.1.0, leaf c.requires.1.1) depth 20)
 
 -- whether the two K agree is asked of their difference
-agree : (c : tie.After-is-zero) → is_zero (c.before.args.low -ℤ c.before.args.high) ≡ c.is_zero.result
+agree : (c : tie.After-is_zero) → is_zero (c.args.low -ℤ c.args.high) ≡ c.is_zero.result
 agree c = sym (c.is_zero.ensures ∙ ap is_zero (apart c.before))
 
-returns : tie.Need-returns
+returns : tie.Need-returns-then-is_zero
 returns c =
-    let s = c.before.before in
-    let same : s.args.low ≡ s.args.high = none_apart s.args.low s.args.high (holds (agree c.before ∙ c.if1.true)) in
+    let s = c in
+    let same : s.args.low ≡ s.args.high = none_apart s.args.low s.args.high (holds (agree c.before ∙ c.if-is_zero.true)) in
     read s.requires.1.0 tt ∙ sym (face_k_equal s.args.face s.args.low s.requires.0 s.requires.1.0) ∙ ap (face_k_of s.args.face s.args.low) same
 
-floor-div-requires : tie.Need-floor-div-requires
+floor-div-requires : tie.Need-floor_div-requires
 floor-div-requires c κs =
-    let k = c.before.before.before.before.before.before.before.before.requires in
+    let k = c.requires in
     no_less (search (ranges, leaf k.0.low, leaf k.0.high, leaf k.1.0, leaf k.1.1) depth 20) tt
 
-returns-2 : tie.Need-returns-2
+returns-2 : tie.Need-returns
 unfolding face_k_of
 returns-2 c =
-    let k = c.before.before.before.before.before.before.before.before.before.requires in
-    exact (search (ranges, b_is c.floor-div.ensures (search (ranges, leaf k.0.low, leaf k.0.high, leaf k.1.0, leaf k.1.1) depth 20)) depth 20)
+    let k = c.requires in
+    exact (search (ranges, b_is c.floor_div.ensures (search (ranges, leaf k.0.low, leaf k.0.high, leaf k.1.0, leaf k.1.1) depth 20)) depth 20)
 
-pub face-k-spec : {M : Type 1} → statement M
-face-k-spec =
+pub face_k_spec : {M : Type 1} → statement M
+face_k_spec =
     tie.close
     (tie.spec
     (λ c. fits (search ranges depth 20) tt)

@@ -5,36 +5,36 @@ use Rattle.flow.specs.Lateral.{tip_of}
 use Rattle.flow.proofs.lateral.tip_thickness.Statement.{statement}
 use Rattle.flow.proofs.lateral.tip_thickness.Tie as tie
 
-rise : (c : tie.After-greatest) → Bounds c.greatest.result
-rise c = b_is c.greatest.ensures (search ranges depth 20)
+rise : (c : tie.After-greatest-rise) → Bounds c.greatest-rise.result
+rise c = b_is c.greatest-rise.ensures (search ranges depth 20)
 
-mul-floor-div : tie.Need-overflow-mul-floor-div
+mul-floor-div : tie.Need-overflow_mul-rise
 unfolding rise
 mul-floor-div c = fits (search (ranges, rise c) depth 20) tt
 
-floor-div-requires : tie.Need-floor-div-requires
-floor-div-requires c κs = no_less (search (ranges, leaf c.before.before.before.before.before.before.before.before.requires.0, leaf c.before.before.before.before.before.before.before.before.requires.1.1.width) depth 20) tt
+floor-div-requires : tie.Need-floor_div-requires
+floor-div-requires c κs = no_less (search (ranges, leaf c.requires.0, leaf c.requires.1.1.width) depth 20) tt
 
-lost : (c : tie.After-floor-div) → Bounds c.floor-div.result
+lost : (c : tie.After-floor_div) → Bounds c.floor_div.result
 unfolding rise
-lost c = b_is c.floor-div.ensures (search (ranges, rise c.before.before.before, leaf c.before.before.before.before.before.before.before.before.before.requires.0, leaf c.before.before.before.before.before.before.before.before.before.requires.1.1.width) depth 20)
+lost c = b_is c.floor_div.ensures (search (ranges, rise c.before.before.before, leaf c.requires.0, leaf c.requires.1.1.width) depth 20)
 
-sub-greatest-2 : tie.Need-overflow-sub-greatest-2
+sub-greatest-2 : tie.Need-overflow_sub-thickness
 unfolding rise lost
-sub-greatest-2 c = fits (search (ranges, lost c, leaf c.before.before.before.before.before.before.before.before.before.requires.1.0) depth 20) tt
+sub-greatest-2 c = fits (search (ranges, lost c, leaf c.requires.1.0) depth 20) tt
 
-returns : tie.Need-returns
+returns : tie.Need-returns-then-behind-gt0
 unfolding tip_of rise lost
 returns c =
-    rw (positive c.before.before.before.before.before.before.before.before.before.before.requires.1.1.thickness tt c.before.before.before.before.before.before.before.if1.true)
-    (exact (search (ranges, b_is c.greatest2.ensures (search (ranges, lost c.before, leaf c.before.before.before.before.before.before.before.before.before.before.requires.1.0) depth 20)) depth 20))
+    rw (positive c.requires.1.1.thickness tt c.if-behind-gt0.true)
+    (exact (search (ranges, b_is c.greatest.ensures (search (ranges, lost c.before, leaf c.requires.1.0) depth 20)) depth 20))
 
-returns-2 : tie.Need-returns-2
+returns-2 : tie.Need-returns
 unfolding tip_of
-returns-2 c = rw (positive c.before.before.before.requires.1.1.thickness tt c.if1.false)
+returns-2 c = rw (positive c.requires.1.1.thickness tt c.if-behind-gt0.false)
 
-pub tip-thickness-spec : {M : Type 1} → statement M
-tip-thickness-spec =
+pub tip_thickness_spec : {M : Type 1} → statement M
+tip_thickness_spec =
     tie.close
     (tie.spec
     (λ c. fits (search ranges depth 20) tt)

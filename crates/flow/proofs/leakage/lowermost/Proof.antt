@@ -4,13 +4,13 @@ use Rattle.flow.specs.Leakage.{lowermost_of}
 use Rattle.flow.proofs.leakage.lowermost.Statement.{statement}
 use Rattle.flow.proofs.leakage.lowermost.Tie as tie
 
-returns : tie.Need-returns
+returns : tie.Need-returns-then-thickness-gt0
 unfolding lowermost_of
-returns c = rw (positive c.before.before.before.requires.of_salt tt c.if1.true)
+returns c = rw (positive c.requires.of_salt tt c.if-thickness-gt0.true)
 
-returns-2 : tie.Need-returns-2
+returns-2 : tie.Need-returns-else-thickness-gt0
 unfolding lowermost_of
-returns-2 c = rw (positive c.before.before.before.requires.of_salt tt c.if1.false)
+returns-2 c = rw (positive c.requires.of_salt tt c.if-thickness-gt0.false)
 
-pub lowermost-spec : {M : Type 1} → statement M
-lowermost-spec = tie.close (tie.spec returns returns-2)
+pub lowermost_spec : {M : Type 1} → statement M
+lowermost_spec = tie.close (tie.spec returns returns-2)

@@ -15,14 +15,14 @@ use Rattle.flow.proofs.litres.litres.Tie as tie
 product : (c d : ℤ) → In (pos 0) (pos most_conductance) c → Abs most_difference d → to_z w64 (of_z w64 (to_z w64 (of_z w64 c) *ℤ to_z w64 (of_z w64 d))) ≡ c *ℤ d
 product c d h k = exact (search ranges depth 20)
 
-round-div-requires : tie.Need-round-div-requires
+round-div-requires : tie.Need-round_div-requires
 round-div-requires c κs = (within (search ranges depth 20) tt tt, within (search ranges depth 20) tt tt)
 
 returns : tie.Need-returns
 unfolding litres_of
 returns c =
-    let s = c.before in
-    answer c.round-div.type-inv (c.round-div.ensures ∙ ap (λ z. rounded_of z (pos ticks)) (product s.args.conductance s.args.difference s.requires.0 s.requires.1))
+    let s = c in
+    answer c.round_div.type_inv (c.round_div.ensures ∙ ap (λ z. rounded_of z (pos ticks)) (product s.args.conductance s.args.difference s.requires.0 s.requires.1))
 
-pub litres-spec : {M : Type 1} → statement M
-litres-spec = tie.close (tie.spec (λ c. fits (search ranges depth 20) tt) round-div-requires returns)
+pub litres_spec : {M : Type 1} → statement M
+litres_spec = tie.close (tie.spec (λ c. fits (search ranges depth 20) tt) round-div-requires returns)

@@ -7,7 +7,7 @@ use Rattle.flow.proofs.litres.over_area.Tie as tie
 
 returns : tie.Need-returns
 unfolding over_area_of
-returns c = exact (search (ranges, b_is c.floor-div.ensures (search ranges depth 20)) depth 20)
+returns c = exact (search (ranges, b_is c.floor_div.ensures (search ranges depth 20)) depth 20)
 
-pub over-area-spec : {M : Type 1} → statement M
-over-area-spec = tie.close (tie.spec (λ c. fits (search ranges depth 20) tt) (λ c κs. search rules) returns)
+pub over_area_spec : {M : Type 1} → statement M
+over_area_spec = tie.close (tie.spec (λ c. fits (search ranges depth 20) tt) (λ c κs. search rules) returns)

@@ -6,5 +6,5 @@ use Rattle.metres.proofs.nearest.digits_of.Tie as tie
 returns : tie.Need-returns
 returns c = digits_are c.args.bits
 
-pub digits-of-spec : {M : Type 1} → statement M
-digits-of-spec = tie.close (tie.spec returns)
+pub digits_of_spec : {M : Type 1} → statement M
+digits_of_spec = tie.close (tie.spec returns)

@@ -6,5 +6,5 @@ use Rattle.metres.proofs.nearest.exponent_of.Tie as tie
 returns : tie.Need-returns
 returns c = field_is c.args.bits
 
-pub exponent-of-spec : {M : Type 1} → statement M
-exponent-of-spec = tie.close (tie.spec returns)
+pub exponent_of_spec : {M : Type 1} → statement M
+exponent_of_spec = tie.close (tie.spec returns)

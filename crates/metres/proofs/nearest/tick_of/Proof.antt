@@ -14,17 +14,17 @@ module _ (s : tie.Start) (n : ℕ) (e : n ≡ ticks_in (of_bits binary64 s.args.
   small : n ≤ 8388608
   small = rw e (size_most s.args.bits s.requires)
 
-cast-size : tie.Need-overflow-cast-size
-cast-size c = sized (small c.before _ c.ticks-in.ensures)
+cast-size : tie.Need-overflow_cast-size
+cast-size c = sized (small c.before _ c.ticks_in-size.ensures)
 
-sub-result : tie.Need-overflow-sub-result
-sub-result c = turned_fits (small c.before.before _ c.before.ticks-in.ensures)
+sub-result : tie.Need-overflow_sub-result
+sub-result c = turned_fits (small c.before.before _ c.ticks_in-size.ensures)
 
-returns : tie.Need-returns
-returns c = turned_is (small c.before.before _ c.before.ticks-in.ensures) ∙ ap (λ n. neg_ℤ (pos n)) c.before.ticks-in.ensures ∙ sym (tick_below c.before.before.args.bits c.before.before.requires c.if1.true)
+returns : tie.Need-returns-then-bits-ge9223372036854775808
+returns c = turned_is (small c.before.before _ c.ticks_in-size.ensures) ∙ ap (λ n. neg_ℤ (pos n)) c.ticks_in-size.ensures ∙ sym (tick_below c.args.bits c.requires c.if-bits-ge9223372036854775808.true)
 
-returns-2 : tie.Need-returns-2
-returns-2 c = as_signed (small c.before.before _ c.before.ticks-in.ensures) ∙ ap pos c.before.ticks-in.ensures ∙ sym (tick_above c.before.before.args.bits c.before.before.requires c.if1.false)
+returns-2 : tie.Need-returns-else-bits-ge9223372036854775808
+returns-2 c = as_signed (small c.before.before _ c.ticks_in-size.ensures) ∙ ap pos c.ticks_in-size.ensures ∙ sym (tick_above c.args.bits c.requires c.if-bits-ge9223372036854775808.false)
 
-pub tick-of-spec : {M : Type 1} → statement M
-tick-of-spec = tie.close (tie.spec (λ c κs. search rules) cast-size sub-result returns returns-2)
+pub tick_of_spec : {M : Type 1} → statement M
+tick_of_spec = tie.close (tie.spec (λ c κs. search rules) cast-size sub-result returns returns-2)
