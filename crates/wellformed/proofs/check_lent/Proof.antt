@@ -7,23 +7,23 @@ use Rattle.wellformed.specs.Limits.{limits_of}
 use Rattle.wellformed.proofs.check_lent.Statement.{statement}
 use Rattle.wellformed.proofs.check_lent.Tie as tie
 
-returns : tie.Need-returns
+returns : tie.Need-returns-then-first-ne0
 returns c =
-    let s = c.before.before.before.args in
+    let s = c.args in
     let k = case_of s.g s.columns.now s.rows.now s.slots.now in
-    first_stays (lent_of k s.reaches ++ contents_of k) (limits_of k) c.before.before.judge-ranges.result c.before.before.judge-ranges.ensures c.if1.true
+    first_stays (lent_of k s.reaches ++ contents_of k) (limits_of k) c.judge_ranges-first.result c.judge_ranges-first.ensures c.if-first-ne0.true
 
-judge-limits-requires : tie.Need-judge-limits-requires
+judge-limits-requires : tie.Need-judge_limits-requires
 judge-limits-requires c κs =
-    let s = c.before.before.before.args in
+    let s = c.args in
     let k = case_of s.g s.columns.now s.rows.now s.slots.now in
-    judged_stands k (judged_apart k s.reaches (rw c.before.before.judge-ranges.ensures at c.if1.false)).0
+    judged_stands k (judged_apart k s.reaches (rw c.judge_ranges-first.ensures at c.if-first-ne0.false)).0
 
-returns-2 : tie.Need-returns-2
+returns-2 : tie.Need-returns
 returns-2 c =
-    let s = c.before.before.before.before.args in
+    let s = c.args in
     let k = case_of s.g s.columns.now s.rows.now s.slots.now in
-    first_goes_on (lent_of k s.reaches ++ contents_of k) (limits_of k) c.before.before.before.judge-ranges.result c.before.before.before.judge-ranges.ensures c.judge-limits.result c.before.if1.false c.judge-limits.ensures
+    first_goes_on (lent_of k s.reaches ++ contents_of k) (limits_of k) c.judge_ranges-first.result c.judge_ranges-first.ensures c.judge_limits.result c.if-first-ne0.false c.judge_limits.ensures
 
-pub check-lent-spec : {M : Type 1} → statement M
-check-lent-spec = tie.close (tie.spec (λ c κs. search rules) returns judge-limits-requires returns-2)
+pub check_lent_spec : {M : Type 1} → statement M
+check_lent_spec = tie.close (tie.spec (λ c κs. search rules) returns judge-limits-requires returns-2)

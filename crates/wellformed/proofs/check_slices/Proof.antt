@@ -8,8 +8,8 @@ use Rattle.wellformed.proofs.check_slices.Tie as tie
 
 returns : tie.Need-returns
 returns c =
-    let s = c.before.args in
-    c.check-lent.ensures ∙ lent_reaches (case_of s.g s.columns.now s.rows.now s.slots.now)
+    let s = c.args in
+    c.check_lent.ensures ∙ lent_reaches (case_of s.g s.columns.now s.rows.now s.slots.now)
 
-pub check-slices-spec : {M : Type 1} → statement M
-check-slices-spec = tie.close (tie.spec (λ c κs. search rules) returns)
+pub check_slices_spec : {M : Type 1} → statement M
+check_slices_spec = tie.close (tie.spec (λ c κs. search rules) returns)

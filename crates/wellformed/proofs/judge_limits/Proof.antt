@@ -8,28 +8,28 @@ use Rattle.wellformed.specs.Limits.{first_at_fault, limits_of}
 use Rattle.wellformed.proofs.judge_limits.Statement.{statement}
 use Rattle.wellformed.proofs.judge_limits.Tie as tie
 
-returns : tie.Need-returns
+returns : tie.Need-returns-then-lower-gt0
 unfolding limits_of first_refusal
 returns c =
-    let s = c.before.before.args in
+    let s = c.args in
     let k = case_of s.g s.columns.now s.rows.now s.slots.now in
-    rw (← c.before.first-at-fault.ensures) (blames_some 9 c.before.first-at-fault.result (or_else (blaming 10 (first_at_fault k 10)) none) (omega arith) c.if1.true)
+    rw (← c.first_at_fault-lower.ensures) (blames_some 9 c.first_at_fault-lower.result (or_else (blaming 10 (first_at_fault k 10)) none) (omega arith) c.if-lower-gt0.true)
 
-returns-2 : tie.Need-returns-2
+returns-2 : tie.Need-returns-then-block-gt0
 unfolding limits_of first_refusal
 returns-2 c =
-    let lower = c.before.before.before.first-at-fault in
-    let block = c.before.first-at-fault2 in
+    let lower = c.first_at_fault-lower in
+    let block = c.first_at_fault-block in
     rw (← lower.ensures, ← block.ensures)
-    (blames_some 10 block.result none (omega arith) c.if2.true ∙ blames_on 9 lower.result (or_else (blaming 10 block.result) none) c.before.before.if1.false)
+    (blames_some 10 block.result none (omega arith) c.if-block-gt0.true ∙ blames_on 9 lower.result (or_else (blaming 10 block.result) none) c.if-lower-gt0.false)
 
-returns-3 : tie.Need-returns-3
+returns-3 : tie.Need-returns
 unfolding limits_of first_refusal
 returns-3 c =
-    let lower = c.before.before.before.first-at-fault in
-    let block = c.before.first-at-fault2 in
+    let lower = c.first_at_fault-lower in
+    let block = c.first_at_fault-block in
     rw (← lower.ensures, ← block.ensures)
-    (blames_on 10 block.result none c.if2.false ∙ blames_on 9 lower.result (or_else (blaming 10 block.result) none) c.before.before.if1.false)
+    (blames_on 10 block.result none c.if-block-gt0.false ∙ blames_on 9 lower.result (or_else (blaming 10 block.result) none) c.if-lower-gt0.false)
 
-pub judge-limits-spec : {M : Type 1} → statement M
-judge-limits-spec = tie.close (tie.spec (λ c κs. search rules) returns (λ c κs. search rules) returns-2 returns-3)
+pub judge_limits_spec : {M : Type 1} → statement M
+judge_limits_spec = tie.close (tie.spec (λ c κs. search rules) returns (λ c κs. search rules) returns-2 returns-3)

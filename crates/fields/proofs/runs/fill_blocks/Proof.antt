@@ -37,7 +37,7 @@ loop-again c =
     let top = c.is_top.ensures in (
       omega arith,
       (
-        same_len_mid n (length l.out - n) l.out c.fill_block-next.new.1.1.1.1.0 c.fill_block-next.auto.1.1.1.1.0 ∙ l.invariant.1.0,
+        same_len_mid n (length l.out - n) l.out c.fill_block-next.new.out c.fill_block-next.auto.out ∙ l.invariant.1.0,
         (
           f.0 ∙ (λ i. (block_from (run i) a.file.now (l.block + 1) (top i)).run) ∙ block_next a.from a.g a.file.now l.block,
           (λ i. put_mid n (length l.out - n) l.out (f.1 i))

@@ -5,13 +5,13 @@ use Rattle.wellformed.specs.Limits.{at_fault}
 use Rattle.wellformed.proofs.limits.at_fault.Statement.{statement}
 use Rattle.wellformed.proofs.limits.at_fault.Tie as tie
 
-returns : tie.Need-returns
+returns : tie.Need-returns-then-number-eq9
 unfolding at_fault
-returns c = rw c.before.if1.true c.overlaps-above.ensures
+returns c = rw c.if-number-eq9.true c.overlaps_above.ensures
 
-returns-2 : tie.Need-returns-2
+returns-2 : tie.Need-returns
 unfolding at_fault
-returns-2 c = rw (ne_eqb c.before.before.args.number 9 c.before.if1.false) c.block-exceeds.ensures
+returns-2 c = rw (ne_eqb c.args.number 9 c.if-number-eq9.false) c.block_exceeds.ensures
 
-pub at-fault-spec : {M : Type 1} → statement M
-at-fault-spec = tie.close (tie.spec (λ c κs. search rules) returns (λ c κs. search rules) returns-2)
+pub at_fault_spec : {M : Type 1} → statement M
+at_fault_spec = tie.close (tie.spec (λ c κs. search rules) returns (λ c κs. search rules) returns-2)

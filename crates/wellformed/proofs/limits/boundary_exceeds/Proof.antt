@@ -15,15 +15,15 @@ use Rattle.wellformed.proofs.WidthsLaws.{placed}
 use Rattle.wellformed.proofs.limits.boundary_exceeds.Statement.{statement}
 use Rattle.wellformed.proofs.limits.boundary_exceeds.Tie as tie
 
-ends : (c : tie.After-load) → Ends (block_of c.before.args.slots.now c.before.args.block)
-ends c = (c.before.requires.0.active c.before.args.block c.before.requires.1.0 (holds c.before.requires.1.1.1)).ends
+ends : (c : tie.After-load-own) → Ends (block_of c.args.slots.now c.args.block)
+ends c = (c.requires.0.active c.args.block c.requires.1.0 (holds c.requires.1.1.1)).ends
 
-leakance-told : (c : tie.After-load) → to_z w64 (of_z w64 c.load.result.boundary_leakance) ≡ (block_of c.before.args.slots.now c.before.args.block).boundary_leakance
-leakance-told c = rw c.load.ensures (read (ends c).boundary_leakance tt)
+leakance-told : (c : tie.After-load-own) → to_z w64 (of_z w64 c.load-own.result.boundary_leakance) ≡ (block_of c.args.slots.now c.args.block).boundary_leakance
+leakance-told c = rw c.load-own.ensures (read (ends c).boundary_leakance tt)
 
-leakance-exceeds-requires : tie.Need-leakance-exceeds-requires
+leakance-exceeds-requires : tie.Need-leakance_exceeds-requires
 leakance-exceeds-requires c κs =
-    let s = c.before.before in (
+    let s = c in (
       rw s.requires.1.1.0 (placed (case_of s.args.g s.args.columns.now s.args.rows.now s.args.slots.now) s.requires.0 s.args.block s.requires.1.0),
       rw (leakance-told c.before) (ends c.before).boundary_leakance,
     )
@@ -31,8 +31,8 @@ leakance-exceeds-requires c κs =
 returns : tie.Need-returns
 unfolding boundary_exceeds
 returns c =
-    let s = c.before.before.before.args in
-    c.leakance-exceeds.ensures ∙ (λ i. exceeds (over_area_of (leakance-told c.before.before i) (area_at s.columns.now s.rows.now (c.before.before.before.requires.1.1.0 i))))
+    let s = c.args in
+    c.leakance_exceeds.ensures ∙ (λ i. exceeds (over_area_of (leakance-told c.before.before i) (area_at s.columns.now s.rows.now (c.requires.1.1.0 i))))
 
-pub boundary-exceeds-spec : {M : Type 1} → statement M
-boundary-exceeds-spec = tie.close (tie.spec (λ c κs. search rules) leakance-exceeds-requires returns)
+pub boundary_exceeds_spec : {M : Type 1} → statement M
+boundary_exceeds_spec = tie.close (tie.spec (λ c κs. search rules) leakance-exceeds-requires returns)

@@ -28,11 +28,11 @@ module _ (f : Face) (k b : ℤ) (h : FaceIn f) (p : In (pos 0) (pos most_k) k) (
 returns : tie.Need-returns
 unfolding far_within
 returns c =
-    let s = c.before.before.before.before in
+    let s = c in
     ap₂ lt_z (flow s.args.face s.args.k s.args.thickness s.requires.0 s.requires.1.0 s.requires.1.1) (most s.args.face s.args.k s.args.thickness s.requires.0 s.requires.1.0 s.requires.1.1)
 
-pub far-within-spec : {M : Type 1} → statement M
-far-within-spec =
+pub far_within_spec : {M : Type 1} → statement M
+far_within_spec =
     tie.close
     (tie.spec
     (λ c. fits (search ranges depth 20) tt)

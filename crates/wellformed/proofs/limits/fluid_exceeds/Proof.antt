@@ -19,31 +19,31 @@ use Rattle.wellformed.proofs.limits.fluid_exceeds.Statement.{statement}
 use Rattle.wellformed.proofs.limits.fluid_exceeds.Tie as tie
 
 -- K of both blocks in the fluid, read back
-low_told : (c : tie.After-k-in) → to_z w64 (of_z w64 c.k-in.result) ≡ k_of c.before.args.g c.before.args.low c.before.args.fluid
-low_told c = answer c.k-in.type-inv c.k-in.ensures
+low_told : (c : tie.After-k_in) → to_z w64 (of_z w64 c.k_in.result) ≡ k_of c.args.g c.args.low c.args.fluid
+low_told c = answer c.k_in.type_inv c.k_in.ensures
 
-high-told : (c : tie.After-k-in2) → to_z w64 (of_z w64 c.k-in2.result) ≡ k_of c.before.before.args.g c.before.before.args.high c.before.before.args.fluid
-high-told c = answer c.k-in2.type-inv c.k-in2.ensures
+high-told : (c : tie.After-k_in-2) → to_z w64 (of_z w64 c.k_in-2.result) ≡ k_of c.args.g c.args.high c.args.fluid
+high-told c = answer c.k_in-2.type_inv c.k_in-2.ensures
 
-low-k : (c : tie.After-k-in) → In (pos 1) (pos most_fluid_k) (k_of c.before.args.g c.before.args.low c.before.args.fluid)
-low-k c = k_in_range c.before.args.g c.before.args.low c.before.args.fluid c.before.requires.termed c.before.requires.low c.before.requires.low_some
+low-k : (c : tie.After-k_in) → In (pos 1) (pos most_fluid_k) (k_of c.args.g c.args.low c.args.fluid)
+low-k c = k_in_range c.args.g c.args.low c.args.fluid c.requires.termed c.requires.low c.requires.low_some
 
-high-k : (c : tie.After-k-in2) → In (pos 1) (pos most_fluid_k) (k_of c.before.before.args.g c.before.before.args.high c.before.before.args.fluid)
-high-k c = k_in_range c.before.before.args.g c.before.before.args.high c.before.before.args.fluid c.before.before.requires.termed c.before.before.requires.high c.before.before.requires.high_some
+high-k : (c : tie.After-k_in-2) → In (pos 1) (pos most_fluid_k) (k_of c.args.g c.args.high c.args.fluid)
+high-k c = k_in_range c.args.g c.args.high c.args.fluid c.requires.termed c.requires.high c.requires.high_some
 
-face-k-requires : tie.Need-face-k-requires
-face-k-requires c κs = (c.before.before.requires.face, (rw (low_told c.before) (low-k c.before), rw (high-told c) (high-k c)))
+face-k-requires : tie.Need-face_k-k-requires
+face-k-requires c κs = (c.requires.face, (rw (low_told c.before) (low-k c.before), rw (high-told c) (high-k c)))
 
-k-told : (c : tie.After-face-k) → to_z w64 (of_z w64 c.face-k.result) ≡ face_k_of c.before.before.before.args.face (k_of c.before.before.before.args.g c.before.before.before.args.low c.before.before.before.args.fluid) (k_of c.before.before.before.args.g c.before.before.before.args.high c.before.before.before.args.fluid)
-k-told c = answer c.face-k.type-inv (c.face-k.ensures ∙ ap₂ (face_k_of c.before.before.before.args.face) (low_told c.before.before) (high-told c.before))
+k-told : (c : tie.After-face_k-k) → to_z w64 (of_z w64 c.face_k-k.result) ≡ face_k_of c.args.face (k_of c.args.g c.args.low c.args.fluid) (k_of c.args.g c.args.high c.args.fluid)
+k-told c = answer c.face_k-k.type_inv (c.face_k-k.ensures ∙ ap₂ (face_k_of c.args.face) (low_told c.before.before) (high-told c.before))
 
 -- the greater thickness
-thickness-told : (c : tie.After-greatest) → to_z w64 (of_z w64 c.greatest.result) ≡ max_ℤ c.before.before.before.before.before.before.args.low.thickness c.before.before.before.before.before.before.args.high.thickness
-thickness-told c = answer c.greatest.type-inv (c.greatest.ensures ∙ ap₂ max_ℤ (read c.before.before.before.before.before.before.requires.low.thickness tt) (read c.before.before.before.before.before.before.requires.high.thickness tt))
+thickness-told : (c : tie.After-greatest-thickness) → to_z w64 (of_z w64 c.greatest-thickness.result) ≡ max_ℤ c.args.low.thickness c.args.high.thickness
+thickness-told c = answer c.greatest-thickness.type_inv (c.greatest-thickness.ensures ∙ ap₂ max_ℤ (read c.requires.low.thickness tt) (read c.requires.high.thickness tt))
 
 conductance-requires : tie.Need-conductance-requires
 conductance-requires c κs =
-    let s = c.before.before.before.before.before.before in (
+    let s = c in (
       s.requires.face,
       (
         rw (k-told c.before.before.before) (face_k_in s.args.face (k_of s.args.g s.args.low s.args.fluid) (k_of s.args.g s.args.high s.args.fluid) s.requires.face (low-k c.before.before.before.before.before) (high-k c.before.before.before.before)),
@@ -54,10 +54,10 @@ conductance-requires c κs =
 returns : tie.Need-returns
 unfolding greatest_of
 returns c =
-    ap (lt_z (pos most_conductance)) (answer c.conductance.type-inv (c.conductance.ensures ∙ ap₂ (conductance_of c.before.before.before.before.before.before.before.args.face) (k-told c.before.before.before.before) (thickness-told c.before)))
+    ap (lt_z (pos most_conductance)) (answer c.conductance.type_inv (c.conductance.ensures ∙ ap₂ (conductance_of c.args.face) (k-told c.before.before.before.before) (thickness-told c.before)))
 
-pub fluid-exceeds-spec : {M : Type 1} → statement M
-fluid-exceeds-spec =
+pub fluid_exceeds_spec : {M : Type 1} → statement M
+fluid_exceeds_spec =
     tie.close
     (tie.spec
     (λ c κs. search rules)

@@ -11,36 +11,36 @@ use Rattle.wellformed.proofs.LinksLaws.{reach}
 use Rattle.wellformed.proofs.links.is_live.Statement.{statement}
 use Rattle.wellformed.proofs.links.is_live.Tie as tie
 
-next : (c : tie.After-has-next) → next_of c.before.args.g c.before.args.axis c.before.args.block ≡ c.has-next.result
-next c = next_told c.before.args.g c.before.args.axis c.before.args.block c.before.args.place c.has-next.result c.before.requires.1.1.1 c.has-next.ensures
+next : (c : tie.After-has_next) → next_of c.args.g c.args.axis c.args.block ≡ c.has_next.result
+next c = next_told c.args.g c.args.axis c.args.block c.args.place c.has_next.result c.requires.1.1.1 c.has_next.ensures
 
 -- the block across is inside
-across : (c : tie.After-stride) → c.before.before.before.before.before.args.block + stride_of c.before.before.before.before.before.args.g c.before.before.before.before.before.args.axis < blocks_of c.before.before.before.before.before.args.g
+across : (c : tie.After-stride) → c.args.block + stride_of c.args.g c.args.axis < blocks_of c.args.g
 across c =
-    let s = c.before.before.before.before.before in
-    next_inside s.args.g s.requires.0 s.args.axis s.args.block s.requires.1.1.0 (holds (next c.before.before.before.before ∙ c.before.before.before.if1.true))
+    let s = c in
+    next_inside s.args.g s.requires.0 s.args.axis s.args.block s.requires.1.1.0 (holds (next c.before.before.before.before ∙ c.if-has_next.true))
 
-add-is-active : tie.Need-overflow-add-is-active
-add-is-active c = omega (arith, across c, c.stride.ensures, c.before.before.before.before.before.requires.0.blocks_most)
+add-is-active : tie.Need-overflow_add-block
+add-is-active c = omega (arith, across c, c.stride.ensures, c.requires.0.blocks_most)
 
-is-active-requires-2 : tie.Need-is-active-requires-2
-is-active-requires-2 c κs = rw c.stride.ensures (reach c.before.before.before.before.before.requires.1.0 (across c))
+is-active-requires-2 : tie.Need-is_active-requires-then-is_active
+is-active-requires-2 c κs = rw c.stride.ensures (reach c.requires.1.0 (across c))
 
-returns : tie.Need-returns
+returns : tie.Need-returns-then-is_active
 unfolding live_of
 returns c =
-    rw (next c.before.before.before.before.before ∙ c.before.before.before.before.if1.true, sym c.before.before.before.is-active.ensures ∙ c.before.before.if2.true, ← c.before.stride.ensures) c.is-active2.ensures
+    rw (next c.before.before.before.before.before ∙ c.if-has_next.true, sym c.is_active.ensures ∙ c.if-is_active.true, ← c.stride.ensures) c.is_active-then-is_active.ensures
 
-returns-2 : tie.Need-returns-2
+returns-2 : tie.Need-returns-else-is_active
 unfolding live_of
-returns-2 c = rw (next c.before.before.before ∙ c.before.before.if1.true, sym c.before.is-active.ensures ∙ c.if2.false)
+returns-2 c = rw (next c.before.before.before ∙ c.if-has_next.true, sym c.is_active.ensures ∙ c.if-is_active.false)
 
-returns-3 : tie.Need-returns-3
+returns-3 : tie.Need-returns-else-has_next
 unfolding live_of
-returns-3 c = rw (next c.before ∙ c.if1.false)
+returns-3 c = rw (next c.before ∙ c.if-has_next.false)
 
-pub is-live-spec : {M : Type 1} → statement M
-is-live-spec =
+pub is_live_spec : {M : Type 1} → statement M
+is_live_spec =
     tie.close
     (tie.spec
     (λ c κs. search rules)

@@ -5,11 +5,11 @@ use Rattle.whole.proofs.SearchLaws.{follows}
 use Rattle.wellformed.proofs.widths.along.Statement.{statement}
 use Rattle.wellformed.proofs.widths.along.Tie as tie
 
-returns : tie.Need-returns
-returns c = rw c.before.if1.true (read_back _ c.result.given)
+returns : tie.Need-returns-then-axis-eq-NEXT_COLUMN
+returns c = rw c.if-axis-eq-NEXT_COLUMN.true (read_back _ c.result-1.given)
 
-returns-2 : tie.Need-returns-2
-returns-2 c = rw (follows c.before.before.args.axis c.before.if1.false) (read_back _ c.result2.given)
+returns-2 : tie.Need-returns-else-axis-eq-NEXT_COLUMN
+returns-2 c = rw (follows c.args.axis c.if-axis-eq-NEXT_COLUMN.false) (read_back _ c.result-else-axis-eq-NEXT_COLUMN-1.given)
 
-pub along-spec : {M : Type 1} → statement M
-along-spec = tie.close (tie.spec (λ c. search rules) (λ c. search rules) (λ c. search rules) (λ c. search rules) returns returns-2)
+pub along_spec : {M : Type 1} → statement M
+along_spec = tie.close (tie.spec (λ c. search rules) (λ c. search rules) (λ c. search rules) (λ c. search rules) returns returns-2)

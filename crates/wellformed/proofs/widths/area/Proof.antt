@@ -5,12 +5,12 @@ use Rattle.wellformed.specs.Widths.{area_at}
 use Rattle.wellformed.proofs.widths.area.Statement.{statement}
 use Rattle.wellformed.proofs.widths.area.Tie as tie
 
-mul-result-3 : tie.Need-overflow-mul-result-3
-mul-result-3 c = fits (search (ranges, leaf c.before.before.requires.column_width, leaf c.before.before.requires.row_width) depth 20) tt
+mul-result-3 : tie.Need-overflow_mul-result
+mul-result-3 c = fits (search (ranges, leaf c.requires.column_width, leaf c.requires.row_width) depth 20) tt
 
 returns : tie.Need-returns
 unfolding area_at
-returns c = exact (search (ranges, leaf c.before.before.requires.column_width, leaf c.before.before.requires.row_width) depth 20)
+returns c = exact (search (ranges, leaf c.requires.column_width, leaf c.requires.row_width) depth 20)
 
-pub area-spec : {M : Type 1} → statement M
-area-spec = tie.close (tie.spec (λ c. search rules) (λ c. search rules) (λ c. search rules) (λ c. search rules) mul-result-3 returns)
+pub area_spec : {M : Type 1} → statement M
+area_spec = tie.close (tie.spec (λ c. search rules) (λ c. search rules) (λ c. search rules) (λ c. search rules) mul-result-3 returns)

@@ -11,20 +11,20 @@ use Rattle.wellformed.proofs.widths.face.Tie as tie
 face_same : {a b c x y z : ℤ} → a ≡ x → b ≡ y → c ≡ z → ◌≡◌ {A = Face} (record { low = a; high = b; across = c }) (record { low = x; high = y; across = z })
 face_same p q r = λ i. record { low = p i; high = q i; across = r i }
 
-next-column : tie.Need-shared-slice-copy-out-t14
-next-column c = rw c.before.if1.true at c.before.before.requires.1
+next-column : tie.Need-bounds-columns-column-then-axis-eq-NEXT_COLUMN
+next-column c = rw c.if-axis-eq-NEXT_COLUMN.true at c.requires.1
 
-next_row : tie.Need-shared-slice-copy-out-t24
-next_row c = rw (follows c.before.before.args.axis c.before.if1.false) at c.before.before.requires.1
+next_row : tie.Need-bounds-rows-row-3
+next_row c = rw (follows c.args.axis c.if-axis-eq-NEXT_COLUMN.false) at c.requires.1
 
-returns : tie.Need-returns
-returns c = rw c.before.before.before.if1.true (face_same (read_back _ c.before.before.t10.given) (read_back _ c.before.t14.given) (read_back _ c.t17.given))
+returns : tie.Need-returns-then-axis-eq-NEXT_COLUMN
+returns c = rw c.if-axis-eq-NEXT_COLUMN.true (face_same (read_back _ c.result-1.given) (read_back _ c.result-then-axis-eq-NEXT_COLUMN-1.given) (read_back _ c.result-then-axis-eq-NEXT_COLUMN-2-1.given))
 
-returns-2 : tie.Need-returns-2
-returns-2 c = rw (follows c.before.before.before.before.args.axis c.before.before.before.if1.false) (face_same (read_back _ c.before.before.t20.given) (read_back _ c.before.t24.given) (read_back _ c.t27.given))
+returns-2 : tie.Need-returns
+returns-2 c = rw (follows c.args.axis c.if-axis-eq-NEXT_COLUMN.false) (face_same (read_back _ c.result-2-1.given) (read_back _ c.result-3-1.given) (read_back _ c.result-4-1.given))
 
-pub face-spec : {M : Type 1} → statement M
-face-spec =
+pub face_spec : {M : Type 1} → statement M
+face_spec =
     tie.close
     (tie.spec
     (λ c. search rules)
