@@ -12,26 +12,26 @@ use Rattle.casefile.specs.Reading.{counted_of}
 use Rattle.casefile.proofs.counted.Statement.{statement}
 use Rattle.casefile.proofs.counted.Tie as tie
 
-cast-columns : tie.Need-overflow-cast-g
+cast-columns : tie.Need-overflow_cast-g
 unfolding ends_of record_range
-cast-columns c = let h = number_in Counts counts c.before.args.values.now c.before.requires.1 0 (omega arith) in unsign_ok (no_less (leaf h) tt) (record { sfits = c.g.given })
+cast-columns c = let h = number_in Counts counts c.args.values.now c.requires.1 0 (omega arith) in unsign_ok (no_less (leaf h) tt) (record { sfits = c.g-1.given })
 
-cast-rows : tie.Need-overflow-cast-g-2
+cast-rows : tie.Need-overflow_cast-g-2
 unfolding ends_of record_range
-cast-rows c = let h = number_in Counts counts c.before.before.args.values.now c.before.before.requires.1 1 (omega arith) in unsign_ok (no_less (leaf h) tt) (record { sfits = c.g2.given })
+cast-rows c = let h = number_in Counts counts c.args.values.now c.requires.1 1 (omega arith) in unsign_ok (no_less (leaf h) tt) (record { sfits = c.g-2-1.given })
 
-cast-layers : tie.Need-overflow-cast-g-3
+cast-layers : tie.Need-overflow_cast-g-3
 unfolding ends_of record_range
-cast-layers c = let h = number_in Counts counts c.before.before.before.args.values.now c.before.before.before.requires.1 2 (omega arith) in unsign_ok (no_less (leaf h) tt) (record { sfits = c.g3.given })
+cast-layers c = let h = number_in Counts counts c.args.values.now c.requires.1 2 (omega arith) in unsign_ok (no_less (leaf h) tt) (record { sfits = c.g-3-1.given })
 
 returns : tie.Need-returns
 unfolding counted_of
 returns c =
-    let v = c.before.before.before.args.values.now in
+    let v = c.args.values.now in
     λ i. only_counts
-    (nat_abs (read_back (get_or v 0 (pos 0)) c.before.before.g.given i))
-    (nat_abs (read_back (get_or v 1 (pos 0)) c.before.g2.given i))
-    (nat_abs (read_back (get_or v 2 (pos 0)) c.g3.given i))
+    (nat_abs (read_back (get_or v 0 (pos 0)) c.g-1.given i))
+    (nat_abs (read_back (get_or v 1 (pos 0)) c.g-2-1.given i))
+    (nat_abs (read_back (get_or v 2 (pos 0)) c.g-3-1.given i))
 
 pub counted_spec : {M : Type 1} → statement M
 counted_spec =

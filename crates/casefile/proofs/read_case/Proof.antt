@@ -19,48 +19,47 @@ use Rattle.casefile.proofs.read_case.Statement.{statement}
 use Rattle.casefile.proofs.read_case.Tie as tie
 
 -- what the run over the counts left, where it is done
-left : (c : tie.After-fill) (next : ℕ) → c.fill.result ≡ Done next → c.fill.new.1.1.1.1.0 ≡ (fill_of (Done 0) Counts c.before.before.before.args.file.now counts).values
-left c next e = c.fill.ensures.1 ∙ fill_of_whole (Done 0) Counts c.before.before.before.args.file.now counts next (replicate counts (pos 0)) refl (sym c.fill.ensures.0 ∙ e)
+left : (c : tie.After-fill) (next : ℕ) → c.fill.result ≡ Done next → c.fill.new.out ≡ (fill_of (Done 0) Counts c.args.file.now counts).values
+left c next e = c.fill.ensures.1 ∙ fill_of_whole (Done 0) Counts c.args.file.now counts next (replicate counts (pos 0)) refl (sym c.fill.ensures.0 ∙ e)
 
 -- the record with them
-record-read : (c : tie.After-counted) → c.counted.result ≡ counted_of (fill_of (Done 0) Counts c.before.before.before.before.before.before.before.before.before.args.file.now counts).values
-record-read c = c.counted.ensures ∙ ap counted_of (left c.before.before.before.before.before.before c.before.before.before.next.given.0.0 c.before.before.before.next.given.1)
+record-read : (c : tie.After-counted-g) → c.counted-g.result ≡ counted_of (fill_of (Done 0) Counts c.args.file.now counts).values
+record-read c = c.counted-g.ensures ∙ ap counted_of (left c.before.before.before.before c.in-Done.next c.in-Done.is)
 
 -- the whole, by the record with them
-abbrev caseGiven : tie.After-counted → Case
-caseGiven c = case_of c.counted.result c.before.before.before.before.before.before.before.before.before.args.columns.now c.before.before.before.before.before.before.before.before.before.args.rows.now c.before.before.before.before.before.before.before.before.before.args.slots.now
+abbrev caseGiven : tie.After-counted-g → Case
+caseGiven c = case_of c.counted-g.result c.args.columns.now c.args.rows.now c.args.slots.now
 
-whole : (c : tie.After-counted) →
-    reading_of c.before.before.before.before.before.before.before.before.before.args.file.now c.before.before.before.before.before.before.before.before.before.args.columns.now c.before.before.before.before.before.before.before.before.before.args.rows.now c.before.before.before.before.before.before.before.before.before.args.slots.now
-    ≡ judging (first_refusal (shape_of (caseGiven c))) (after_counts c.counted.result c.before.before.before.before.before.before.before.before.before.args.file.now c.before.before.before.next.given.0.0)
-whole c = counts_done c.before.before.before.before.before.before.before.before.before.args.file.now c.before.before.before.before.before.before.before.before.before.args.columns.now c.before.before.before.before.before.before.before.before.before.args.rows.now c.before.before.before.before.before.before.before.before.before.args.slots.now c.before.before.before.before.before.before.fill.result c.before.before.before.before.before.before.fill.ensures.0 c.counted.result c.before.before.before.next.given.0.0 c.before.before.before.next.given.1 (record-read c)
+whole : (c : tie.After-counted-g) →
+    reading_of c.args.file.now c.args.columns.now c.args.rows.now c.args.slots.now
+    ≡ judging (first_refusal (shape_of (caseGiven c))) (after_counts c.counted-g.result c.args.file.now c.in-Done.next)
+whole c = counts_done c.args.file.now c.args.columns.now c.args.rows.now c.args.slots.now c.fill.result c.fill.ensures.0 c.counted-g.result c.in-Done.next c.in-Done.is (record-read c)
 
-counted-requires : tie.Need-counted-requires
+counted-requires : tie.Need-counted-g-requires
 counted-requires c κs =
-    let next = c.before.before.next.given in
-    let kept = c.before.before.before.before.before.fill.auto.1.1.1.1.0 in
-    (omega (arith, kept), subst (Within Counts counts) (sym (left c.before.before.before.before.before next.0.0 next.1)) (fill_within Counts counts_sent c.before.before.before.before.before.before.before.before.args.file.now (Done 0) counts next.0.0 (sym c.before.before.before.before.before.fill.ensures.0 ∙ next.1)))
+    let kept = c.fill.auto.out in
+    (omega (arith, kept), subst (Within Counts counts) (sym (left c.before.before.before c.in-Done.next c.in-Done.is)) (fill_within Counts counts_sent c.args.file.now (Done 0) counts c.in-Done.next (sym c.fill.ensures.0 ∙ c.in-Done.is)))
 
-returns : tie.Need-returns
+returns : tie.Need-returns-then-refusal-ne0
 returns c =
-    let e = judging_stays c.before.before.before.shape.result (first_refusal (shape_of (caseGiven c.before.before.before.before.before.before.before))) (after_counts c.before.before.before.before.before.before.before.counted.result c.before.before.before.before.before.before.before.before.before.before.before.before.before.before.before.before.args.file.now c.before.before.before.before.before.before.before.before.before.before.next.given.0.0) c.before.before.before.shape.ensures c.before.if1.true in
-    rw (whole c.before.before.before.before.before.before.before ∙ e) (c.refused2.ensures, (refl, (refl, refl)))
+    let e = judging_stays c.shape-refusal.result (first_refusal (shape_of (caseGiven c.before.before.before.before.before.before.before))) (after_counts c.counted-g.result c.args.file.now c.in-Done.next) c.shape-refusal.ensures c.if-refusal-ne0.true in
+    rw (whole c.before.before.before.before ∙ e) (c.refused-then-refusal-ne0.ensures, (refl, (refl, refl)))
 
-read-density-requires : tie.Need-read-density-requires
-read-density-requires c κs = let h = shape_stands (case_of c.before.before.before.before.before.before.before.before.before.counted.result c.before.before.before.before.before.before.before.before.before.before.before.before.before.before.before.before.before.before.args.columns.now c.before.before.before.before.before.before.before.before.before.before.before.before.before.before.before.before.before.before.args.rows.now c.before.before.before.before.before.before.before.before.before.before.before.before.before.before.before.before.before.before.args.slots.now) (rw (← c.before.before.before.before.before.shape.ensures) c.before.before.before.if1.false) in h
+read-density-requires : tie.Need-read_density-requires
+read-density-requires c κs = let h = shape_stands (case_of c.counted-g.result c.args.columns.now c.args.rows.now c.args.slots.now) (rw (← c.shape-refusal.ensures) c.if-refusal-ne0.false) in h
 
-returns-2 : tie.Need-returns-2
+returns-2 : tie.Need-returns-in-Refused
 returns-2 c =
-    let a = c.before.before.before.before.before.before.before.before.args in
-    rw (counts_refused a.file.now a.columns.now a.rows.now a.slots.now c.before.before.before.before.before.fill.result c.before.before.before.before.before.fill.ensures.0 c.before.before.refusal.given.0.0 c.before.before.refusal.given.1) (c.refused.ensures, (refl, (refl, refl)))
+    let a = c.args in
+    rw (counts_refused a.file.now a.columns.now a.rows.now a.slots.now c.fill.result c.fill.ensures.0 c.in-Refused.refusal c.in-Refused.is) (c.refused.ensures, (refl, (refl, refl)))
 
-returns-3 : tie.Need-returns-3
+returns-3 : tie.Need-returns-else-refusal-ne0
 returns-3 c =
-    let e = judging_goes_on c.before.before.before.before.before.before.before.before.before.shape.result (first_refusal (shape_of (caseGiven c.before.before.before.before.before.before.before.before.before.before.before.before.before))) (after_counts c.before.before.before.before.before.before.before.before.before.before.before.before.before.counted.result c.before.before.before.before.before.before.before.before.before.before.before.before.before.before.before.before.before.before.before.before.before.before.args.file.now c.before.before.before.before.before.before.before.before.before.before.before.before.before.before.before.before.next.given.0.0) c.before.before.before.before.before.before.before.before.before.shape.ensures c.before.before.before.before.before.before.before.if1.false in
-    rw (whole c.before.before.before.before.before.before.before.before.before.before.before.before.before ∙ e) c.before.before.before.read-density.ensures
+    let e = judging_goes_on c.shape-refusal.result (first_refusal (shape_of (caseGiven c.before.before.before.before.before.before.before.before.before.before.before.before.before))) (after_counts c.counted-g.result c.args.file.now c.in-Done.next) c.shape-refusal.ensures c.if-refusal-ne0.false in
+    rw (whole c.before.before.before.before.before.before.before.before.before.before ∙ e) c.read_density.ensures
 
-pub read-case-spec : {M : Type 1} → statement M
-read-case-spec =
+pub read_case_spec : {M : Type 1} → statement M
+read_case_spec =
     tie.close
     (tie.spec
     (λ c. search rules)

@@ -20,27 +20,27 @@ use Rattle.casefile.proofs.read_density.Statement.{statement}
 use Rattle.casefile.proofs.read_density.Tie as tie
 
 -- what the run over δ and the weights left, where it is done
-left : (c : tie.After-fill) (next : ℕ) → c.fill.result ≡ Done next → c.fill.new.1.1.1.1.0 ≡ (fill_of (Done c.before.before.before.args.at) Density c.before.before.before.args.file.now density).values
-left c next e = c.fill.ensures.1 ∙ fill_of_whole (Done c.before.before.before.args.at) Density c.before.before.before.args.file.now density next (replicate density (pos 0)) refl (sym c.fill.ensures.0 ∙ e)
+left : (c : tie.After-fill) (next : ℕ) → c.fill.result ≡ Done next → c.fill.new.out ≡ (fill_of (Done c.args.at) Density c.args.file.now density).values
+left c next e = c.fill.ensures.1 ∙ fill_of_whole (Done c.args.at) Density c.args.file.now density next (replicate density (pos 0)) refl (sym c.fill.ensures.0 ∙ e)
 
 -- the record with them
-record-read : (c : tie.After-weighed) → c.weighed.result ≡ weighed_of c.before.before.before.before.before.before.before.before.before.args.g (fill_of (Done c.before.before.before.before.before.before.before.before.before.args.at) Density c.before.before.before.before.before.before.before.before.before.args.file.now density).values
-record-read c = c.weighed.ensures ∙ ap (weighed_of c.before.before.before.before.before.before.before.before.before.args.g) (left c.before.before.before.before.before.before c.before.before.before.next.given.0.0 c.before.before.before.next.given.1)
+record-read : (c : tie.After-weighed-h) → c.weighed-h.result ≡ weighed_of c.args.g (fill_of (Done c.args.at) Density c.args.file.now density).values
+record-read c = c.weighed-h.ensures ∙ ap (weighed_of c.args.g) (left c.before.before.before.before c.in-Done.next c.in-Done.is)
 
 -- where they are judged in range
-passes : (c : tie.Else1) → density_holds c.before.before.weighed.result ≡ true
-passes c = sym c.before.density-holds.ensures ∙ not-false c.before.density-holds.result c.if1.false
+passes : (c : tie.Else-not-density_holds) → density_holds c.weighed-h.result ≡ true
+passes c = sym c.density_holds.ensures ∙ not-false c.density_holds.result c.if-not-density_holds.false-raw
 
-returns : tie.Need-returns
+returns : tie.Need-returns-then-not-density_holds
 returns c =
     let w = c.before.before.before in
-    let a = w.before.before.before.before.before.before.before.before.before.args in
-    rw (density_fails a.g w.weighed.result a.file.now a.at w.before.before.before.next.given.0.0 w.before.before.before.before.before.before.fill.result w.before.before.before.before.before.before.fill.ensures.0 w.before.before.before.next.given.1 (record-read w) (sym c.before.before.density-holds.ensures ∙ not-true c.before.before.density-holds.result c.before.if1.true)) (c.refused2.ensures, (refl, (refl, refl)))
+    let a = w.args in
+    rw (density_fails a.g w.weighed-h.result a.file.now a.at w.in-Done.next w.fill.result w.fill.ensures.0 w.in-Done.is (record-read w) (sym c.density_holds.ensures ∙ not-true c.density_holds.result c.if-not-density_holds.true-raw)) (c.refused-then-not-density_holds.ensures, (refl, (refl, refl)))
 
-read-terms-requires : tie.Need-read-terms-requires
+read-terms-requires : tie.Need-read_terms-requires
 read-terms-requires c κs =
     let w = c.before.before.before.before.before in
-    let s = w.before.before.before.before.before.before.before.before.before in
+    let s = w in
     let a = s.args in
     let v = (fill_of (Done a.at) Density a.file.now density).values in
     rw (record-read w) (
@@ -48,19 +48,19 @@ read-terms-requires c κs =
       weighed_roomy a.g v a.columns.now a.rows.now a.slots.now s.requires.1,
     )
 
-returns-2 : tie.Need-returns-2
+returns-2 : tie.Need-returns-in-Refused
 returns-2 c =
-    let a = c.before.before.before.before.before.before.before.before.args in
-    rw (density_refused a.g a.file.now a.at c.before.before.before.before.before.fill.result c.before.before.refusal.given.0.0 c.before.before.before.before.before.fill.ensures.0 c.before.before.refusal.given.1) (c.refused.ensures, (refl, (refl, refl)))
+    let a = c.args in
+    rw (density_refused a.g a.file.now a.at c.fill.result c.in-Refused.refusal c.fill.ensures.0 c.in-Refused.is) (c.refused.ensures, (refl, (refl, refl)))
 
-returns-3 : tie.Need-returns-3
+returns-3 : tie.Need-returns-else-not-density_holds
 returns-3 c =
     let w = c.before.before.before.before.before.before.before.before.before in
-    let a = w.before.before.before.before.before.before.before.before.before.args in
-    rw (density_passes a.g w.weighed.result a.file.now a.at w.before.before.before.next.given.0.0 w.before.before.before.before.before.before.fill.result w.before.before.before.before.before.before.fill.ensures.0 w.before.before.before.next.given.1 (record-read w) (passes c.before.before.before.before.before.before.before)) c.before.before.before.read-terms.ensures
+    let a = w.args in
+    rw (density_passes a.g w.weighed-h.result a.file.now a.at w.in-Done.next w.fill.result w.fill.ensures.0 w.in-Done.is (record-read w) (passes c.before.before.before.before.before.before.before)) c.read_terms.ensures
 
-pub read-density-spec : {M : Type 1} → statement M
-read-density-spec =
+pub read_density_spec : {M : Type 1} → statement M
+read_density_spec =
     tie.close
     (tie.spec
     (λ c. search rules)

@@ -17,45 +17,44 @@ use Rattle.casefile.proofs.read_terms.Statement.{statement}
 use Rattle.casefile.proofs.read_terms.Tie as tie
 
 -- what the run over the terms left, where it is done
-left : (c : tie.After-fill) (next : ℕ) → c.fill.result ≡ Done next → c.fill.new.1.1.1.1.0 ≡ (fill_of (Done c.before.before.before.args.at) Terms c.before.before.before.args.file.now terms).values
-left c next e = c.fill.ensures.1 ∙ fill_of_whole (Done c.before.before.before.args.at) Terms c.before.before.before.args.file.now terms next (replicate terms (pos 0)) refl (sym c.fill.ensures.0 ∙ e)
+left : (c : tie.After-fill) (next : ℕ) → c.fill.result ≡ Done next → c.fill.new.out ≡ (fill_of (Done c.args.at) Terms c.args.file.now terms).values
+left c next e = c.fill.ensures.1 ∙ fill_of_whole (Done c.args.at) Terms c.args.file.now terms next (replicate terms (pos 0)) refl (sym c.fill.ensures.0 ∙ e)
 
 -- these are within their ends
-ends : (c : tie.After-fill) (next : ℕ) → c.fill.result ≡ Done next → Within Terms terms (fill_of (Done c.before.before.before.args.at) Terms c.before.before.before.args.file.now terms).values
-ends c next e = fill_within Terms terms_sent c.before.before.before.args.file.now (Done c.before.before.before.args.at) terms next (sym c.fill.ensures.0 ∙ e)
+ends : (c : tie.After-fill) (next : ℕ) → c.fill.result ≡ Done next → Within Terms terms (fill_of (Done c.args.at) Terms c.args.file.now terms).values
+ends c next e = fill_within Terms terms_sent c.args.file.now (Done c.args.at) terms next (sym c.fill.ensures.0 ∙ e)
 
 -- the record with them
-record-read : (c : tie.After-termed) → c.termed.result ≡ termed_of c.before.before.before.before.before.before.before.before.before.args.g (fill_of (Done c.before.before.before.before.before.before.before.before.before.args.at) Terms c.before.before.before.before.before.before.before.before.before.args.file.now terms).values
-record-read c = c.termed.ensures ∙ ap (termed_of c.before.before.before.before.before.before.before.before.before.args.g) (left c.before.before.before.before.before.before c.before.before.before.next.given.0.0 c.before.before.before.next.given.1)
+record-read : (c : tie.After-termed) → c.termed.result ≡ termed_of c.args.g (fill_of (Done c.args.at) Terms c.args.file.now terms).values
+record-read c = c.termed.ensures ∙ ap (termed_of c.args.g) (left c.before.before.before.before c.in-Done.next c.in-Done.is)
 
 termed-requires : tie.Need-termed-requires
 termed-requires c κs =
-    let next = c.before.before.next.given in
-    let kept = c.before.before.before.before.before.fill.auto.1.1.1.1.0 in
-    (omega (arith, kept), subst (Within Terms terms) (sym (left c.before.before.before.before.before next.0.0 next.1)) (ends c.before.before.before.before.before next.0.0 next.1))
+    let kept = c.fill.auto.out in
+    (omega (arith, kept), subst (Within Terms terms) (sym (left c.before.before.before c.in-Done.next c.in-Done.is)) (ends c.before.before.before c.in-Done.next c.in-Done.is))
 
-read-body-requires : tie.Need-read-body-requires
+read-body-requires : tie.Need-read_body-requires
 read-body-requires c κs =
-    let s = c.before.before.before.before.before.before.before.before.before.before.before.before in
+    let s = c in
     let a = s.args in
     let v = (fill_of (Done a.at) Terms a.file.now terms).values in
     rw (record-read c.before.before.before) (
-      (termed_counted a.g v s.requires.0.0, termed_within a.g v s.requires.0.1 (ends c.before.before.before.before.before.before.before.before.before c.before.before.before.before.before.before.next.given.0.0 c.before.before.before.before.before.before.next.given.1)),
+      (termed_counted a.g v s.requires.0.0, termed_within a.g v s.requires.0.1 (ends c.before.before.before.before.before.before.before c.in-Done.next c.in-Done.is)),
       termed_roomy a.g v a.columns.now a.rows.now a.slots.now s.requires.1,
     )
 
-returns : tie.Need-returns
+returns : tie.Need-returns-in-Refused
 returns c =
-    let a = c.before.before.before.before.before.before.before.before.args in
-    rw (terms_refused a.g a.file.now a.at c.before.before.before.before.before.fill.result c.before.before.refusal.given.0.0 c.before.before.before.before.before.fill.ensures.0 c.before.before.refusal.given.1) (c.refused.ensures, (refl, (refl, refl)))
+    let a = c.args in
+    rw (terms_refused a.g a.file.now a.at c.fill.result c.in-Refused.refusal c.fill.ensures.0 c.in-Refused.is) (c.refused.ensures, (refl, (refl, refl)))
 
-returns-2 : tie.Need-returns-2
+returns-2 : tie.Need-returns-in-Done
 returns-2 c =
-    let a = c.before.before.before.before.before.before.before.before.before.before.before.before.before.before.before.before.args in
-    rw (terms_done a.g c.before.before.before.before.before.before.before.termed.result a.file.now a.at c.before.before.before.before.before.before.before.before.before.before.next.given.0.0 c.before.before.before.before.before.before.before.before.before.before.before.before.before.fill.result c.before.before.before.before.before.before.before.before.before.before.before.before.before.fill.ensures.0 c.before.before.before.before.before.before.before.before.before.before.next.given.1 (record-read c.before.before.before.before.before.before.before)) c.before.before.before.read-body.ensures
+    let a = c.args in
+    rw (terms_done a.g c.termed.result a.file.now a.at c.in-Done.next c.fill.result c.fill.ensures.0 c.in-Done.is (record-read c.before.before.before.before.before.before.before)) c.read_body.ensures
 
-pub read-terms-spec : {M : Type 1} → statement M
-read-terms-spec =
+pub read_terms_spec : {M : Type 1} → statement M
+read_terms_spec =
     tie.close
     (tie.spec
     (λ c. search rules)

@@ -12,19 +12,19 @@ use Rattle.casefile.specs.Reading.{termed_of}
 use Rattle.casefile.proofs.termed.Statement.{statement}
 use Rattle.casefile.proofs.termed.Tie as tie
 
-cast-flag : tie.Need-overflow-cast-h
+cast-flag : tie.Need-overflow_cast-h
 unfolding ends_of record_range
-cast-flag c = let h = number_in Terms terms c.before.args.values.now c.before.requires.1 0 (omega arith) in unsign_ok (no_less (leaf h) tt) (record { sfits = c.h.given })
+cast-flag c = let h = number_in Terms terms c.args.values.now c.requires.1 0 (omega arith) in unsign_ok (no_less (leaf h) tt) (record { sfits = c.h-1.given })
 
 returns : tie.Need-returns
 unfolding termed_of
 returns c =
-    let g = c.before.before.before.args.g in
-    let v = c.before.before.before.args.values.now in
+    let g = c.args.g in
+    let v = c.args.values.now in
     λ i. record_of g.columns g.rows g.layers g.delta g.fresh_weight g.salt_weight
-    (nat_abs (read_back (get_or v 0 (pos 0)) c.before.before.h.given i))
-    (read_back (get_or v 1 (pos 0)) c.before.h2.given i)
-    (read_back (get_or v 2 (pos 0)) c.h3.given i)
+    (nat_abs (read_back (get_or v 0 (pos 0)) c.h-1.given i))
+    (read_back (get_or v 1 (pos 0)) c.h-2-1.given i)
+    (read_back (get_or v 2 (pos 0)) c.h-3-1.given i)
 
-pub termed-spec : {M : Type 1} → statement M
-termed-spec = tie.close (tie.spec (λ c. search rules) cast-flag (λ c. search rules) (λ c. search rules) returns)
+pub termed_spec : {M : Type 1} → statement M
+termed_spec = tie.close (tie.spec (λ c. search rules) cast-flag (λ c. search rules) (λ c. search rules) returns)

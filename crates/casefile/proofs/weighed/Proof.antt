@@ -11,13 +11,13 @@ use Rattle.casefile.proofs.weighed.Tie as tie
 returns : tie.Need-returns
 unfolding weighed_of
 returns c =
-    let g = c.before.before.before.args.g in
-    let v = c.before.before.before.args.values.now in
+    let g = c.args.g in
+    let v = c.args.values.now in
     λ i. record_of g.columns g.rows g.layers
-    (read_back (get_or v 0 (pos 0)) c.before.before.h.given i)
-    (read_back (get_or v 1 (pos 0)) c.before.h2.given i)
-    (read_back (get_or v 2 (pos 0)) c.h3.given i)
+    (read_back (get_or v 0 (pos 0)) c.h-1.given i)
+    (read_back (get_or v 1 (pos 0)) c.h-2-1.given i)
+    (read_back (get_or v 2 (pos 0)) c.h-3-1.given i)
     g.flag g.step g.tolerance
 
-pub weighed-spec : {M : Type 1} → statement M
-weighed-spec = tie.close (tie.spec (λ c. search rules) (λ c. search rules) (λ c. search rules) returns)
+pub weighed_spec : {M : Type 1} → statement M
+weighed_spec = tie.close (tie.spec (λ c. search rules) (λ c. search rules) (λ c. search rules) returns)

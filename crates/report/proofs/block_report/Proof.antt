@@ -12,17 +12,17 @@ use Rattle.report.proofs.block_report.Tie as tie
 abbrev case_in : tie.Start → Case
 case_in s = case_of s.args.g s.args.columns.now s.args.rows.now s.args.slots.now
 
-returns : tie.Need-returns
-returns c = c.refused.ensures ∙ check_refuses (case_in c.before.before.before.before) c.before.before.before.before.args.number c.before.before.before.check-slices.result c.before.before.before.check-slices.ensures c.before.if1.true
+returns : tie.Need-returns-then-refusal-ne0
+returns c = c.refused.ensures ∙ check_refuses (case_in c.before.before.before.before) c.args.number c.check_slices-refusal.result c.check_slices-refusal.ensures c.if-refusal-ne0.true
 
-passed : (c : tie.Else1) → (checked_of (case_in c.before.before.before)).number ≡ 0
-passed c = rw c.before.before.check-slices.ensures at c.if1.false
+passed : (c : tie.Else-refusal-ne0) → (checked_of (case_in c.before.before.before)).number ≡ 0
+passed c = rw c.check_slices-refusal.ensures at c.if-refusal-ne0.false
 
-returns-2 : tie.Need-returns-2
-returns-2 c = c.report-of-case.ensures ∙ case_reported (case_in c.before.before.before.before) c.before.before.before.before.args.number (passed c.before)
+returns-2 : tie.Need-returns
+returns-2 c = c.report_of_case.ensures ∙ case_reported (case_in c.before.before.before.before) c.args.number (passed c.before)
 
-pub block-report-spec : {M : Type 1} → statement M
-block-report-spec =
+pub block_report_spec : {M : Type 1} → statement M
+block_report_spec =
     tie.close
     (tie.spec
     (λ c κs. search rules)

@@ -20,31 +20,31 @@ told z h e = e ∙ ap metres_of (read_back z h)
 back : (z : ℤ) → mag z < 2 ^ 63 → Abs most_shown z → Abs most_shown (to_z w64 (of_z w64 z))
 back z h in-range = subst (Abs most_shown) (sym (read_back z h)) in-range
 
-metres-of-requires : tie.Need-metres-of-requires
-metres-of-requires c κs = back c.before.args.heads.fresh c.struct_told.given.0.1 (within (leaf c.before.requires.0.of_fresh) tt tt)
+metres-of-requires : tie.Need-metres_of-requires
+metres-of-requires c κs = back c.args.heads.fresh c.struct_told-1.given.0.1 (within (leaf c.requires.0.of_fresh) tt tt)
 
-metres-of-requires-2 : tie.Need-metres-of-requires-2
-metres-of-requires-2 c κs = back c.before.before.before.args.heads.salt c.struct-told2.given.1.0.1 (within (leaf c.before.before.before.requires.0.of_salt) tt tt)
+metres-of-requires-2 : tie.Need-metres_of-requires-2
+metres-of-requires-2 c κs = back c.args.heads.salt c.struct_told-2-1.given.1.0.1 (within (leaf c.requires.0.of_salt) tt tt)
 
-metres-of-requires-3 : tie.Need-metres-of-requires-3
-metres-of-requires-3 c κs = subst (Abs most_shown) (sym (to_z-of_z c.before.before.before.before.ranges.interface)) (within (leaf c.before.before.before.before.requires.1.0) tt tt)
+metres-of-requires-3 : tie.Need-metres_of-requires-3
+metres-of-requires-3 c κs = subst (Abs most_shown) (sym (to_z-of_z c.ranges.interface)) (within (leaf c.requires.1.0) tt tt)
 
-metres-of-requires-4 : tie.Need-metres-of-requires-4
-metres-of-requires-4 c κs = back c.before.before.before.before.before.before.args.waters.fresh c.struct-told3.given.0.1 (within (leaf c.before.before.before.before.before.before.requires.1.1.of_fresh) tt tt)
+metres-of-requires-4 : tie.Need-metres_of-requires-4
+metres-of-requires-4 c κs = back c.args.waters.fresh c.struct_told-3-1.given.0.1 (within (leaf c.requires.1.1.of_fresh) tt tt)
 
-metres-of-requires-5 : tie.Need-metres-of-requires-5
-metres-of-requires-5 c κs = back c.before.before.before.before.before.before.before.before.args.waters.salt c.struct-told4.given.1.0.1 (within (leaf c.before.before.before.before.before.before.before.before.requires.1.1.of_salt) tt tt)
+metres-of-requires-5 : tie.Need-metres_of-requires-5
+metres-of-requires-5 c κs = back c.args.waters.salt c.struct_told-4-1.given.1.0.1 (within (leaf c.requires.1.1.of_salt) tt tt)
 
 returns : tie.Need-returns
 returns c =
-    let s = c.before.before.before.before.before.before.before.before.before.args in
+    let s = c.args in
     λ i. record {
-      fresh_head = told s.heads.fresh c.before.before.before.before.before.before.before.before.struct_told.given.0.1 c.before.before.before.before.before.before.before.metres-of.ensures i;
-      salt_head = told s.heads.salt c.before.before.before.before.before.before.struct-told2.given.1.0.1 c.before.before.before.before.before.metres-of2.ensures i;
-      interface = (c.before.before.before.before.metres-of3.ensures ∙ ap metres_of (to_z-of_z c.before.before.before.before.before.before.before.before.before.ranges.interface)) i;
-      fresh_thickness = told s.waters.fresh c.before.before.before.struct-told3.given.0.1 c.before.before.metres-of4.ensures i;
-      salt_thickness = told s.waters.salt c.before.struct-told4.given.1.0.1 c.metres-of5.ensures i;
+      fresh_head = told s.heads.fresh c.struct_told-1.given.0.1 c.metres_of.ensures i;
+      salt_head = told s.heads.salt c.struct_told-2-1.given.1.0.1 c.metres_of-2.ensures i;
+      interface = (c.metres_of-3.ensures ∙ ap metres_of (to_z-of_z c.ranges.interface)) i;
+      fresh_thickness = told s.waters.fresh c.struct_told-3-1.given.0.1 c.metres_of-4.ensures i;
+      salt_thickness = told s.waters.salt c.struct_told-4-1.given.1.0.1 c.metres_of-5.ensures i;
     }
 
-pub in-metres-spec : {M : Type 1} → statement M
-in-metres-spec = tie.close (tie.spec metres-of-requires metres-of-requires-2 metres-of-requires-3 metres-of-requires-4 metres-of-requires-5 returns)
+pub in_metres_spec : {M : Type 1} → statement M
+in_metres_spec = tie.close (tie.spec metres-of-requires metres-of-requires-2 metres-of-requires-3 metres-of-requires-4 metres-of-requires-5 returns)

@@ -17,43 +17,43 @@ use Rattle.report.proofs.report_of_case.Tie as tie
 abbrev case_in : tie.Start → Case
 case_in s = case_of s.args.g s.args.columns.now s.args.rows.now s.args.slots.now
 
-returns : tie.Need-returns
+returns : tie.Need-returns-then-not-names_active
 returns c =
     let s = c.before.before.before in
-    c.refused.ensures ∙ unreported (case_in s) s.args.number (sym c.before.before.names-active.ensures ∙ not-true c.before.before.names-active.result c.before.if1.true)
+    c.refused.ensures ∙ unreported (case_in s) s.args.number (sym c.names_active.ensures ∙ not-true c.names_active.result c.if-not-names_active.true-raw)
 
 -- a number that names an active block
-names-it : (c : tie.Else1) → names_active c.before.before.args.g c.before.before.args.slots.now c.before.before.args.number ≡ true
-names-it c = sym c.before.names-active.ensures ∙ not-false c.before.names-active.result c.if1.false
+names-it : (c : tie.Else-not-names_active) → names_active c.args.g c.args.slots.now c.args.number ≡ true
+names-it c = sym c.names_active.ensures ∙ not-false c.names_active.result c.if-not-names_active.false-raw
 
-inside : (c : tie.Else1) → Named (case_in c.before.before) c.before.before.args.number
-inside c = named (case_in c.before.before) c.before.before.args.number (names-it c)
+inside : (c : tie.Else-not-names_active) → Named (case_in c.before.before) c.args.number
+inside c = named (case_in c.before.before) c.args.number (names-it c)
 
-below : (c : tie.Else1) → c.before.before.args.number - 1 < blocks_of c.before.before.args.g
-below c = named_inside (case_in c.before.before) c.before.before.args.number (inside c)
+below : (c : tie.Else-not-names_active) → c.args.number - 1 < blocks_of c.args.g
+below c = named_inside (case_in c.before.before) c.args.number (inside c)
 
-report-of-requires : tie.Need-report-of-requires
+report-of-requires : tie.Need-report_of-requires
 report-of-requires c κs =
     let e = c.before.before in
-    let k = e.before.before.requires in
-    (k.termed, rw c.before.load.ensures (k.active _ (below e) (inside e).1.1).ends)
+    let k = e.requires in
+    (k.termed, rw c.load.ensures (k.active _ (below e) (inside e).1.1).ends)
 
-returns-2 : tie.Need-returns-2
+returns-2 : tie.Need-returns
 returns-2 c =
     let e = c.before.before.before in
     let s = e.before.before in
-    reported (case_in s) s.args.number (names-it e) c.report-of.result
-    (c.report-of.ensures ∙ (λ i. report_of s.args.g (c.before.before.load.ensures i) (c.before.is-top.ensures i)))
+    reported (case_in s) s.args.number (names-it e) c.report_of.result
+    (c.report_of.ensures ∙ (λ i. report_of s.args.g (c.load.ensures i) (c.is_top.ensures i)))
 
-pub report-of-case-spec : {M : Type 1} → statement M
-report-of-case-spec =
+pub report_of_case_spec : {M : Type 1} → statement M
+report_of_case_spec =
     tie.close
     (tie.spec
     (λ c κs. (c.requires.counted, c.requires.roomy.slots))
     (λ c κs. search rules)
     returns
     (λ c. omega (arith, (inside c).0))
-    (λ c κs. omega (arith, below c, c.before.before.requires.roomy.slots))
-    (λ c κs. (c.before.before.before.requires.counted, below c.before))
+    (λ c κs. omega (arith, below c, c.requires.roomy.slots))
+    (λ c κs. (c.requires.counted, below c.before))
     report-of-requires
     returns-2)

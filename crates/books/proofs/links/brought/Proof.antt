@@ -17,53 +17,53 @@ use Rattle.books.proofs.CarriedLaws.{brought_dead, brought_live, brought_other, 
 use Rattle.books.proofs.links.brought.Statement.{statement}
 use Rattle.books.proofs.links.brought.Tie as tie
 
-live : (c : tie.After-is-live) → live_of c.before.args.g c.before.args.slots.now c.before.args.axis c.before.args.block ≡ c.is_live.result
+live : (c : tie.After-is_live) → live_of c.args.g c.args.slots.now c.args.axis c.args.block ≡ c.is_live.result
 live c = sym c.is_live.ensures
 
 counts-requires : tie.Need-counts-requires
 counts-requires c κs =
-    let s = c.before.before in
+    let s = c in
     let k = case_of s.args.g s.args.columns.now s.args.rows.now s.args.slots.now in
-    (slotted k s.requires.0.judged, (s.requires.1.0, (live_inside s.args.g s.args.slots.now s.args.axis s.args.block (holds (live c.before ∙ c.if1.true)) s.requires.0.judged.counted s.requires.1.1.0, s.requires.1.1.1.1)))
+    (slotted k s.requires.0.judged, (s.requires.1.0, (live_inside s.args.g s.args.slots.now s.args.axis s.args.block (holds (live c.before ∙ c.if-is_live.true)) s.requires.0.judged.counted s.requires.1.1.0, s.requires.1.1.1.1)))
 
-carried-requires : tie.Need-carried-requires
+carried-requires : tie.Need-carried-flow-requires
 carried-requires c κs =
-    let h = c.before.before.before.before.requires in
-    (h.0, (h.1.0, (h.1.1.0, (h.1.1.1.0, (h.1.1.1.1, live c.before.before.before ∙ c.before.before.if1.true)))))
+    let h = c.requires in
+    (h.0, (h.1.0, (h.1.1.0, (h.1.1.1.0, (h.1.1.1.1, live c.before.before.before ∙ c.if-is_live.true)))))
 
-flow-in : (c : tie.After-carried) → Abs most_flow (carried_of (case_of c.before.before.before.before.before.args.g c.before.before.before.before.before.args.columns.now c.before.before.before.before.before.args.rows.now c.before.before.before.before.before.args.slots.now) c.before.before.before.before.before.args.fluid c.before.before.before.before.before.args.axis c.before.before.before.before.before.args.block)
+flow-in : (c : tie.After-carried-flow) → Abs most_flow (carried_of (case_of c.args.g c.args.columns.now c.args.rows.now c.args.slots.now) c.args.fluid c.args.axis c.args.block)
 flow-in c =
-    let s = c.before.before.before.before.before in
-    carried_in (case_of s.args.g s.args.columns.now s.args.rows.now s.args.slots.now) s.requires.0 s.args.fluid s.args.axis s.args.block s.requires.1.1.1.1 s.requires.1.1.0 (holds (live c.before.before.before.before ∙ c.before.before.before.if1.true))
+    let s = c in
+    carried_in (case_of s.args.g s.args.columns.now s.args.rows.now s.args.slots.now) s.requires.0 s.args.fluid s.args.axis s.args.block s.requires.1.1.1.1 s.requires.1.1.0 (holds (live c.before.before.before.before ∙ c.if-is_live.true))
 
-sub-result : tie.Need-overflow-sub-result
-sub-result c = fits (search (ranges, b_is c.before.carried.ensures (leaf (flow-in c.before))) depth 20) tt
+sub-result : tie.Need-overflow_sub-result
+sub-result c = fits (search (ranges, b_is c.carried-flow.ensures (leaf (flow-in c.before))) depth 20) tt
 
 -- what the link brings, where its water counts
-told : (c : tie.After-carried) → brought_of (books_of (case_of c.before.before.before.before.before.args.g c.before.before.before.before.before.args.columns.now c.before.before.before.before.before.args.rows.now c.before.before.before.before.before.args.slots.now) c.before.before.before.before.before.args.fluid) c.before.before.before.before.before.args.low c.before.before.before.before.before.args.axis c.before.before.before.before.before.args.block ≡ cond c.before.before.before.before.before.args.low (neg_ℤ (carried_of (case_of c.before.before.before.before.before.args.g c.before.before.before.before.before.args.columns.now c.before.before.before.before.before.args.rows.now c.before.before.before.before.before.args.slots.now) c.before.before.before.before.before.args.fluid c.before.before.before.before.before.args.axis c.before.before.before.before.before.args.block)) (carried_of (case_of c.before.before.before.before.before.args.g c.before.before.before.before.before.args.columns.now c.before.before.before.before.before.args.rows.now c.before.before.before.before.before.args.slots.now) c.before.before.before.before.before.args.fluid c.before.before.before.before.before.args.axis c.before.before.before.before.before.args.block)
+told : (c : tie.After-carried-flow) → brought_of (books_of (case_of c.args.g c.args.columns.now c.args.rows.now c.args.slots.now) c.args.fluid) c.args.low c.args.axis c.args.block ≡ cond c.args.low (neg_ℤ (carried_of (case_of c.args.g c.args.columns.now c.args.rows.now c.args.slots.now) c.args.fluid c.args.axis c.args.block)) (carried_of (case_of c.args.g c.args.columns.now c.args.rows.now c.args.slots.now) c.args.fluid c.args.axis c.args.block)
 told c =
-    let s = c.before.before.before.before.before.args in
-    brought_live (case_of s.g s.columns.now s.rows.now s.slots.now) s.fluid s.axis s.block s.low (live c.before.before.before.before ∙ c.before.before.before.if1.true) (sym c.before.before.counts.ensures ∙ c.before.if2.true)
+    let s = c.args in
+    brought_live (case_of s.g s.columns.now s.rows.now s.slots.now) s.fluid s.axis s.block s.low (live c.before.before.before.before ∙ c.if-is_live.true) (sym c.counts.ensures ∙ c.if-counts.true)
 
-returns : tie.Need-returns
+returns : tie.Need-returns-then-low
 returns c =
-    rw (told c.before, c.if3.true) (exact (search (ranges, b_is c.before.carried.ensures (leaf (flow-in c.before))) depth 20) ∙ +ℤ_idl _)
+    rw (told c.before, c.if-low.true) (exact (search (ranges, b_is c.carried-flow.ensures (leaf (flow-in c.before))) depth 20) ∙ +ℤ_idl _)
 
-returns-2 : tie.Need-returns-2
-returns-2 c = rw (told c.before, c.if3.false) (answer c.before.carried.type-inv c.before.carried.ensures)
+returns-2 : tie.Need-returns-then-counts
+returns-2 c = rw (told c.before, c.if-low.false) (answer c.carried-flow.type_inv c.carried-flow.ensures)
 
-returns-3 : tie.Need-returns-3
+returns-3 : tie.Need-returns-else-counts
 returns-3 c =
-    let s = c.before.before.before.before.args in
-    sym (brought_other (case_of s.g s.columns.now s.rows.now s.slots.now) s.fluid s.axis s.block s.low (sym c.before.counts.ensures ∙ c.if2.false))
+    let s = c.args in
+    sym (brought_other (case_of s.g s.columns.now s.rows.now s.slots.now) s.fluid s.axis s.block s.low (sym c.counts.ensures ∙ c.if-counts.false))
 
-returns-4 : tie.Need-returns-4
+returns-4 : tie.Need-returns-else-is_live
 returns-4 c =
-    let s = c.before.before.args in
-    sym (brought_dead (case_of s.g s.columns.now s.rows.now s.slots.now) s.fluid s.axis s.block s.low (live c.before ∙ c.if1.false))
+    let s = c.args in
+    sym (brought_dead (case_of s.g s.columns.now s.rows.now s.slots.now) s.fluid s.axis s.block s.low (live c.before ∙ c.if-is_live.false))
 
-pub brought-spec : {M : Type 1} → statement M
-brought-spec =
+pub brought_spec : {M : Type 1} → statement M
+brought_spec =
     tie.close
     (tie.spec
     (λ c κs. search rules)

@@ -8,19 +8,19 @@ use Rattle.books.proofs.CarriedLaws.{counts_lateral}
 use Rattle.books.proofs.links.counts.Statement.{statement}
 use Rattle.books.proofs.links.counts.Tie as tie
 
-returns : tie.Need-returns
+returns : tie.Need-returns-then-axis-lt-ABOVE
 returns c =
-    let s = c.before.args in
+    let s = c.args in
     sym (counts_lateral s.g s.slots.now s.fluid s.axis s.block s.low (omega arith))
 
-upward : (c : tie.Else1) → c.before.args.axis ≡ above
-upward c = omega (arith, c.before.requires.1.1.1)
+upward : (c : tie.Else-axis-lt-ABOVE) → c.args.axis ≡ above
+upward c = omega (arith, c.requires.1.1.1)
 
 named-requires : tie.Need-named-requires
-named-requires c κs = (c.before.requires.0, (c.before.requires.1.0, subst (λ (d : ℕ). c.before.args.block + stride_of c.before.args.g d < blocks_of c.before.args.g) (upward c) c.before.requires.1.1.0))
+named-requires c κs = (c.requires.0, (c.requires.1.0, subst (λ (d : ℕ). c.args.block + stride_of c.args.g d < blocks_of c.args.g) (upward c) c.requires.1.1.0))
 
-returns-2 : tie.Need-returns-2
+returns-2 : tie.Need-returns
 returns-2 c = rw (upward c.before, c.named.ensures)
 
-pub counts-spec : {M : Type 1} → statement M
-counts-spec = tie.close (tie.spec returns named-requires returns-2)
+pub counts_spec : {M : Type 1} → statement M
+counts_spec = tie.close (tie.spec returns named-requires returns-2)

@@ -52,47 +52,47 @@ wide : (c : tie.Start) → Placed c.args.columns.now c.args.rows.now (place_of c
 wide c = placed (case_of c.args.g c.args.columns.now c.args.rows.now c.args.slots.now) c.requires.0.judged c.args.block c.requires.1.1.0
 
 area-requires : tie.Need-area-requires
-area-requires c κs = rw c.before.requires.1.1.1.0 (wide c.before)
+area-requires c κs = rw c.requires.1.1.1.0 (wide c.before)
 
 -- leakance, area and conductance, read back
-leakance-told : (c : tie.After-load) → to_z w64 (of_z w64 c.load.result.leakance) ≡ (block_of c.before.args.slots.now c.before.args.block).leakance
-leakance-told c = rw c.load.ensures (read (ends c.before).leakance tt)
+leakance-told : (c : tie.After-load-own) → to_z w64 (of_z w64 c.load-own.result.leakance) ≡ (block_of c.args.slots.now c.args.block).leakance
+leakance-told c = rw c.load-own.ensures (read (ends c.before).leakance tt)
 
-area-told : (c : tie.After-area) → to_z w64 (of_z w64 c.area.result) ≡ area_at c.before.before.args.columns.now c.before.before.args.rows.now (place_of c.before.before.args.g c.before.before.args.block)
-area-told c = answer c.area.type-inv (c.area.ensures ∙ ap (area_at c.before.before.args.columns.now c.before.before.args.rows.now) c.before.before.requires.1.1.1.0)
+area-told : (c : tie.After-area) → to_z w64 (of_z w64 c.area.result) ≡ area_at c.args.columns.now c.args.rows.now (place_of c.args.g c.args.block)
+area-told c = answer c.area.type_inv (c.area.ensures ∙ ap (area_at c.args.columns.now c.args.rows.now) c.requires.1.1.1.0)
 
-over-area-requires : tie.Need-over-area-requires
+over-area-requires : tie.Need-over_area-conductance-requires
 over-area-requires c κs = (rw (leakance-told c.before.before) (ends c.before.before.before).leakance, rw (area-told c.before) (area_in (wide c.before.before.before)))
 
-conductance-told : (c : tie.After-over-area) → to_z w64 (of_z w64 c.over-area.result) ≡ over_area_of (block_of c.before.before.before.before.args.slots.now c.before.before.before.before.args.block).leakance (area_at c.before.before.before.before.args.columns.now c.before.before.before.before.args.rows.now (place_of c.before.before.before.before.args.g c.before.before.before.before.args.block))
-conductance-told c = answer c.over-area.type-inv (c.over-area.ensures ∙ ap₂ over_area_of (leakance-told c.before.before.before) (area-told c.before.before))
+conductance-told : (c : tie.After-over_area-conductance) → to_z w64 (of_z w64 c.over_area-conductance.result) ≡ over_area_of (block_of c.args.slots.now c.args.block).leakance (area_at c.args.columns.now c.args.rows.now (place_of c.args.g c.args.block))
+conductance-told c = answer c.over_area-conductance.type_inv (c.over_area-conductance.ensures ∙ ap₂ over_area_of (leakance-told c.before.before.before) (area-told c.before.before))
 
-add-upper : tie.Need-overflow-add-upper
-add-upper c = omega (arith, far c.before.before.before.before.before, c.stride.ensures, c.before.before.before.before.before.requires.0.judged.counted.blocks_most)
+add-upper : tie.Need-overflow_add-upper
+add-upper c = omega (arith, far c.before.before.before.before.before, c.stride.ensures, c.requires.0.judged.counted.blocks_most)
 
-load-requires-2 : tie.Need-load-requires-2
-load-requires-2 c κs = rw c.before.before.stride.ensures (reach (ready c.before.before.before.before.before.before.before).room (far c.before.before.before.before.before.before.before))
+load-requires-2 : tie.Need-load-requires
+load-requires-2 c κs = rw c.stride.ensures (reach (ready c.before.before.before.before.before.before.before).room (far c.before.before.before.before.before.before.before))
 
 pair-requires-2 : tie.Need-pair-requires-2
-pair-requires-2 c κs = omega (arith, far c.before.before.before.before.before.before.before.before.before, c.before.before.before.before.stride.ensures, c.before.before.before.before.before.before.before.before.before.requires.1.0.room)
+pair-requires-2 c κs = omega (arith, far c.before.before.before.before.before.before.before.before.before, c.stride.ensures, c.requires.1.0.room)
 
-aquifer-top-requires : tie.Need-aquifer-top-requires
-aquifer-top-requires c κs = rw c.before.before.before.before.before.before.before.before.before.load.ensures (ends c.before.before.before.before.before.before.before.before.before.before)
+aquifer-top-requires : tie.Need-aquifer_top-requires
+aquifer-top-requires c κs = rw c.load-own.ensures (ends c.before.before.before.before.before.before.before.before.before.before)
 
 -- what leakage sees of the two blocks
-below-told : (c : tie.After-pair) → ◌≡◌ {A = LeakageSide} (record { heads = c.before.new-heads.result; thickness = c.pair.result }) (leakage_side_at c.before.before.before.before.before.before.before.args.g c.before.before.before.before.before.before.before.args.slots.now c.before.before.before.before.before.before.before.args.block)
-below-told c = λ i. record { heads = (c.before.new-heads.ensures ∙ ap new_heads c.before.before.before.before.before.before.load.ensures) i; thickness = (c.pair.ensures ∙ c.before.before.before.before.before.before.before.requires.1.0.each c.before.before.before.before.before.before.before.args.block c.before.before.before.before.before.before.before.requires.1.1.0) i }
+below-told : (c : tie.After-pair) → ◌≡◌ {A = LeakageSide} (record { heads = c.new_heads.result; thickness = c.pair.result }) (leakage_side_at c.args.g c.args.slots.now c.args.block)
+below-told c = λ i. record { heads = (c.new_heads.ensures ∙ ap new_heads c.load-own.ensures) i; thickness = (c.pair.ensures ∙ c.requires.1.0.each c.args.block c.requires.1.1.0) i }
 
-above-told : (c : tie.After-pair2) → ◌≡◌ {A = LeakageSide} (record { heads = c.before.new-heads2.result; thickness = c.pair2.result }) (leakage_side_at c.before.before.before.before.before.before.before.before.before.before.args.g c.before.before.before.before.before.before.before.before.before.before.args.slots.now (c.before.before.before.before.before.before.before.before.before.before.args.block + stride_of c.before.before.before.before.before.before.before.before.before.before.args.g above))
+above-told : (c : tie.After-pair-2) → ◌≡◌ {A = LeakageSide} (record { heads = c.new_heads-2.result; thickness = c.pair-2.result }) (leakage_side_at c.args.g c.args.slots.now (c.args.block + stride_of c.args.g above))
 above-told c =
     let s = c.before.before.before.before.before.before.before.before.before.before in
     λ i. record {
-      heads = (c.before.new-heads2.ensures ∙ ap new_heads (c.before.before.load2.ensures ∙ ap (λ (n : ℕ). block_of s.args.slots.now (s.args.block + n)) c.before.before.before.before.before.stride.ensures)) i;
-      thickness = (c.pair2.ensures ∙ ap (λ (n : ℕ). pair_of s.args.waters.now (s.args.block + n)) c.before.before.before.before.before.stride.ensures ∙ s.requires.1.0.each (s.args.block + stride_of s.args.g above) (far s)) i;
+      heads = (c.new_heads-2.ensures ∙ ap new_heads (c.load.ensures ∙ ap (λ (n : ℕ). block_of s.args.slots.now (s.args.block + n)) c.stride.ensures)) i;
+      thickness = (c.pair-2.ensures ∙ ap (λ (n : ℕ). pair_of s.args.waters.now (s.args.block + n)) c.stride.ensures ∙ s.requires.1.0.each (s.args.block + stride_of s.args.g above) (far s)) i;
     }
 
-top-told : (c : tie.After-aquifer-top) → to_z w64 (of_z w64 c.aquifer-top.result) ≡ aquifer_top_of (block_of c.before.before.before.before.before.before.before.before.before.before.before.args.slots.now c.before.before.before.before.before.before.before.before.before.before.before.args.block)
-top-told c = answer c.aquifer-top.type-inv (c.aquifer-top.ensures ∙ ap aquifer_top_of c.before.before.before.before.before.before.before.before.before.before.load.ensures)
+top-told : (c : tie.After-aquifer_top) → to_z w64 (of_z w64 c.aquifer_top.result) ≡ aquifer_top_of (block_of c.args.slots.now c.args.block)
+top-told c = answer c.aquifer_top.type_inv (c.aquifer_top.ensures ∙ ap aquifer_top_of c.load-own.ensures)
 
 leakage-requires : tie.Need-leakage-requires
 leakage-requires c κs =
@@ -113,10 +113,10 @@ leakage-requires c κs =
 
 returns : tie.Need-returns
 unfolding leakage_at
-returns c = answer c.leakage.type-inv (c.leakage.ensures ∙ (λ i. leakage_of c.before.before.before.before.before.before.before.before.before.before.before.before.args.g (conductance-told c.before.before.before.before.before.before.before.before i) (below-told c.before.before.before.before.before i) (above-told c.before.before i) (top-told c.before i)))
+returns c = answer c.leakage.type_inv (c.leakage.ensures ∙ (λ i. leakage_of c.args.g (conductance-told c.before.before.before.before.before.before.before.before i) (below-told c.before.before.before.before.before i) (above-told c.before.before i) (top-told c.before i)))
 
-pub leakage-flow-spec : {M : Type 1} → statement M
-leakage-flow-spec =
+pub leakage_flow_spec : {M : Type 1} → statement M
+leakage_flow_spec =
     tie.close
     (tie.spec
     (λ c κs. search rules)

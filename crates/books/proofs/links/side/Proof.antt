@@ -9,24 +9,24 @@ use Rattle.books.proofs.WatersLaws.{active_ends}
 use Rattle.books.proofs.links.side.Statement.{statement}
 use Rattle.books.proofs.links.side.Tie as tie
 
-k-in-requires : tie.Need-k-in-requires
+k-in-requires : tie.Need-k_in-requires
 k-in-requires c κs =
-    let s = c.before in
-    (s.requires.0.termed, rw c.load.ensures (active_ends s.args.g s.args.slots.now s.requires.0 s.args.block s.requires.1.1.0 s.requires.1.1.1))
+    let s = c in
+    (s.requires.0.termed, rw c.load-own.ensures (active_ends s.args.g s.args.slots.now s.requires.0 s.args.block s.requires.1.1.0 s.requires.1.1.1))
 
 returns : tie.Need-returns
 unfolding side_of
 returns c =
-    let s = c.before.before.before.before.before.before in
-    let load = c.before.before.before.before.before.load.ensures in
+    let s = c in
+    let load = c.load-own.ensures in
     λ i. record {
-      k = answer c.before.before.before.before.k-in.type-inv (c.before.before.before.before.k-in.ensures ∙ ap (λ b. k_of s.args.g b s.args.fluid) load) i;
-      thickness = answer c.before.before.in-fluid.type-inv (c.before.before.in-fluid.ensures ∙ ap (λ t. in_fluid t s.args.fluid) (c.before.before.before.pair.ensures ∙ s.requires.1.0.each s.args.block s.requires.1.1.0)) i;
-      head = answer c.in-fluid2.type-inv (c.in-fluid2.ensures ∙ ap (λ h. in_fluid h s.args.fluid) (c.before.new-heads.ensures ∙ ap new_heads load)) i;
+      k = answer c.k_in.type_inv (c.k_in.ensures ∙ ap (λ b. k_of s.args.g b s.args.fluid) load) i;
+      thickness = answer c.in_fluid.type_inv (c.in_fluid.ensures ∙ ap (λ t. in_fluid t s.args.fluid) (c.pair.ensures ∙ s.requires.1.0.each s.args.block s.requires.1.1.0)) i;
+      head = answer c.in_fluid-2.type_inv (c.in_fluid-2.ensures ∙ ap (λ h. in_fluid h s.args.fluid) (c.new_heads.ensures ∙ ap new_heads load)) i;
     }
 
-pub side-spec : {M : Type 1} → statement M
-side-spec =
+pub side_spec : {M : Type 1} → statement M
+side_spec =
     tie.close
     (tie.spec
     (λ c κs. search rules)

@@ -10,22 +10,22 @@ use Rattle.books.proofs.OwnLaws.{fixing_in}
 use Rattle.books.proofs.own.is_fixed.Statement.{statement}
 use Rattle.books.proofs.own.is_fixed.Tie as tie
 
-kind-told : (c : tie.After-fixing) → to_z w64 (of_z w64 c.fixing.result) ≡ fixing_of c.before.args.fluid
-kind-told c = answer c.fixing.type-inv c.fixing.ensures
+kind-told : (c : tie.After-fixing) → to_z w64 (of_z w64 c.fixing.result) ≡ fixing_of c.args.fluid
+kind-told c = answer c.fixing.type_inv c.fixing.ensures
 
-is-kind-requires : tie.Need-is-kind-requires
-is-kind-requires c κs = (c.before.requires, rw (kind-told c) (fixing_in c.before.args.fluid))
+is-kind-requires : tie.Need-is_kind-requires
+is-kind-requires c κs = (c.requires, rw (kind-told c) (fixing_in c.args.fluid))
 
-told : (c : tie.After-is-kind) → is_kind c.before.before.args.block (fixing_of c.before.before.args.fluid) ≡ c.is-kind.result
-told c = sym (c.is-kind.ensures ∙ ap (is_kind c.before.before.args.block) (kind-told c.before))
+told : (c : tie.After-is_kind) → is_kind c.args.block (fixing_of c.args.fluid) ≡ c.is_kind.result
+told c = sym (c.is_kind.ensures ∙ ap (is_kind c.args.block) (kind-told c.before))
 
-returns : tie.Need-returns
+returns : tie.Need-returns-then-is_kind
 unfolding fixed_of
-returns c = rw (told c.before ∙ c.if1.true)
+returns c = rw (told c.before ∙ c.if-is_kind.true)
 
-returns-2 : tie.Need-returns-2
+returns-2 : tie.Need-returns
 unfolding fixed_of
-returns-2 c = rw (told c.before.before ∙ c.before.if1.false) c.is-kind2.ensures
+returns-2 c = rw (told c.before.before ∙ c.if-is_kind.false) c.is_kind-2.ensures
 
-pub is-fixed-spec : {M : Type 1} → statement M
-is-fixed-spec = tie.close (tie.spec (λ c κs. search rules) is-kind-requires returns (λ c κs. search rules) returns-2)
+pub is_fixed_spec : {M : Type 1} → statement M
+is_fixed_spec = tie.close (tie.spec (λ c κs. search rules) is-kind-requires returns (λ c κs. search rules) returns-2)

@@ -17,11 +17,11 @@ use Rattle.books.proofs.own.stored.Tie as tie
 abbrev oldLevelsIn : tie.Start → Levels
 oldLevelsIn c = levels_of c.args.g c.args.block c.args.top (old_heads c.args.block)
 
-levels-of-requires : tie.Need-levels-of-requires
-levels-of-requires c κs = (c.before.requires.0, (c.before.requires.1.0, rw c.old-heads.ensures (old_heads_in c.before.args.block c.before.requires.1.0)))
+levels-of-requires : tie.Need-levels_of-requires
+levels-of-requires c κs = (c.requires.0, (c.requires.1.0, rw c.old_heads.ensures (old_heads_in c.args.block c.requires.1.0)))
 
-levels-told : (c : tie.After-levels-of) → c.levels-of.result ≡ oldLevelsIn c.before.before
-levels-told c = c.levels-of.ensures ∙ ap (levels_of c.before.before.args.g c.before.before.args.block c.before.before.args.top) c.before.old-heads.ensures
+levels-told : (c : tie.After-levels_of) → c.levels_of.result ≡ oldLevelsIn c.before.before
+levels-told c = c.levels_of.ensures ∙ ap (levels_of c.args.g c.args.block c.args.top) c.old_heads.ensures
 
 levelled : (c : tie.Start) → Levelled (oldLevelsIn c)
 levelled c = levels_levelled c.args.g c.args.block c.args.top (old_heads c.args.block) c.requires.1.0
@@ -30,11 +30,11 @@ levelled c = levels_levelled c.args.g c.args.block c.args.top (old_heads c.args.
 over-told : (c : tie.Start) → to_z w64 (of_z w64 c.args.over) ≡ c.args.over
 over-told c = read c.requires.1.1.0 tt
 
-new_told : (c : tie.After-in-fluid) → to_z w64 (of_z w64 c.in-fluid.result) ≡ in_fluid c.before.before.before.before.args.waters c.before.before.before.before.args.fluid
-new_told c = answer c.in-fluid.type-inv c.in-fluid.ensures
+new_told : (c : tie.After-in_fluid) → to_z w64 (of_z w64 c.in_fluid.result) ≡ in_fluid c.args.waters c.args.fluid
+new_told c = answer c.in_fluid.type_inv c.in_fluid.ensures
 
-old-told : (c : tie.After-in-fluid2) → to_z w64 (of_z w64 c.in-fluid2.result) ≡ in_fluid (thicknesses_of (oldLevelsIn c.before.before.before.before.before)) c.before.before.before.before.before.args.fluid
-old-told c = answer c.in-fluid2.type-inv (c.in-fluid2.ensures ∙ ap (λ f. in_fluid f c.before.before.before.before.before.args.fluid) (c.before.before.thicknesses.ensures ∙ ap thicknesses_of (levels-told c.before.before.before)))
+old-told : (c : tie.After-in_fluid-2) → to_z w64 (of_z w64 c.in_fluid-2.result) ≡ in_fluid (thicknesses_of (oldLevelsIn c.before.before.before.before.before)) c.args.fluid
+old-told c = answer c.in_fluid-2.type_inv (c.in_fluid-2.ensures ∙ ap (λ f. in_fluid f c.args.fluid) (c.thicknesses-old.ensures ∙ ap thicknesses_of (levels-told c.before.before.before)))
 
 storage-requires : tie.Need-storage-requires
 storage-requires c κs =
@@ -53,10 +53,10 @@ storage-requires c κs =
     )
 
 returns : tie.Need-returns
-returns c = answer c.storage.type-inv (c.storage.ensures ∙ (λ k. storage_of c.before.before.before.before.before.before.args.g c.before.before.before.before.before.before.args.block (over-told c.before.before.before.before.before.before k) (new_told c.before.before k) (old-told c.before k)))
+returns c = answer c.storage.type_inv (c.storage.ensures ∙ (λ k. storage_of c.args.g c.args.block (over-told c.before.before.before.before.before.before k) (new_told c.before.before k) (old-told c.before k)))
 
-pub stored-spec : {M : Type 1} → statement M
-stored-spec =
+pub stored_spec : {M : Type 1} → statement M
+stored_spec =
     tie.close
     (tie.spec
     (λ c κs. search rules)

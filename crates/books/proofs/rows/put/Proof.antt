@@ -5,7 +5,7 @@ use borrow.Author.Rules.{rules}
 use Rattle.books.proofs.rows.put.Statement.{statement}
 use Rattle.books.proofs.rows.put.Tie as tie
 
-slice-set-from-salt : tie.Need-slice-set-from-salt
+slice-set-from-salt : tie.Need-bounds-row-block-2
 slice-set-from-salt c = simp length-set (omega arith)
 
 pub put_spec : {M : Type 1} → statement M

@@ -10,37 +10,37 @@ use Rattle.books.proofs.RowsLaws.{filled_start, filled_turn}
 use Rattle.books.proofs.waters.fill_waters.Statement.{statement}
 use Rattle.books.proofs.waters.fill_waters.Tie as tie
 
-abbrev invariant-loop : tie.invariant-loop
+abbrev invariant-loop : tie.invariant-loop-block
 invariant-loop g slots row₀ total block₀ row block = (block ≤ total) × ((length row ≡ length row₀) × (row ≡ filled_of block (waters_of g slots) row₀))
 
-abbrev decreases-loop : tie.decreases-loop
+abbrev decreases-loop : tie.decreases-loop-block
 decreases-loop g slots row₀ total block₀ row block = total - block
 
-loop-holds : tie.Need-loop-init invariant-loop decreases-loop
+loop-holds : tie.Need-loop-block-init invariant-loop decreases-loop
 loop-holds c =
-    let s = c.before.args in
+    let s = c.args in
     (omega arith, (refl, sym (filled_start (waters_of s.g s.slots.now) s.row.now)))
 
-waters-of-requires : tie.Need-waters-of-requires invariant-loop decreases-loop
-waters-of-requires c κs = (c.before.before.before.requires.0, omega arith)
+waters-of-requires : tie.Need-waters_of-both-requires invariant-loop decreases-loop
+waters-of-requires c κs = (c.requires.0, omega arith)
 
-loop-again : tie.Need-loop-preserved invariant-loop decreases-loop
+loop-again : tie.Need-loop-block-preserved invariant-loop decreases-loop
 loop-again c =
-    let l = c.before.before.before.before.before.loop in (
+    let l = c.loop-block in (
       omega arith,
       (
-        c.before.put.auto.0 ∙ l.invariant.1.0,
-        filled_turn l.block _ _ l.invariant.1.1 c.before.before.before.waters-of.ensures c.before.put.ensures,
+        c.put.auto.row ∙ l.invariant.1.0,
+        filled_turn l.block _ _ l.invariant.1.1 c.waters_of-both.ensures c.put.ensures,
       ),
     )
 
 returns : tie.Need-returns invariant-loop decreases-loop
 returns c =
-    let e : c.before.loop.block ≡ blocks_of c.before.before.before.args.g = omega arith in
-    rw (← e) c.before.loop.invariant.1.1
+    let e : c.loop-block.block ≡ blocks_of c.args.g = omega arith in
+    rw (← e) c.loop-block.invariant.1.1
 
-pub fill-waters-spec : {M : Type 1} → statement M
-fill-waters-spec =
+pub fill_waters_spec : {M : Type 1} → statement M
+fill_waters_spec =
     tie.close
     (tie.spec
     invariant-loop
@@ -52,5 +52,5 @@ fill-waters-spec =
     (λ c. omega arith)
     (λ c. omega arith)
     loop-again
-    (λ c. c.before.loop.invariant.1.0)
+    (λ c. c.loop-block.invariant.1.0)
     returns)

@@ -10,39 +10,39 @@ use Rattle.books.proofs.WatersLaws.{active_ends, lengths_are, lengths_in, length
 use Rattle.books.proofs.waters.is_dry_at.Statement.{statement}
 use Rattle.books.proofs.waters.is_dry_at.Tie as tie
 
-active : (c : tie.Then1) → active_of c.before.before.args.slots.now c.before.before.args.block ≡ true
-active c = sym c.before.is-active.ensures ∙ c.if1.true
+active : (c : tie.Then-is_active) → active_of c.args.slots.now c.args.block ≡ true
+active c = sym c.is_active.ensures ∙ c.if-is_active.true
 
-waters-told : (c : tie.After-pair) → c.pair.result ≡ waters_of c.before.before.before.before.args.g c.before.before.before.before.args.slots.now c.before.before.before.before.args.block
-waters-told c = c.pair.ensures ∙ c.before.before.before.before.requires.1.0.each c.before.before.before.before.args.block c.before.before.before.before.requires.1.1
+waters-told : (c : tie.After-pair) → c.pair.result ≡ waters_of c.args.g c.args.slots.now c.args.block
+waters-told c = c.pair.ensures ∙ c.requires.1.0.each c.args.block c.requires.1.1
 
-lengths-on-requires : tie.Need-lengths-on-requires
+lengths-on-requires : tie.Need-lengths_on-requires
 lengths-on-requires c κs =
-    let s = c.before.before.before.before in
-    rw (c.before.load.ensures, waters-told c) (lengths_ready s.args.g s.args.slots.now s.requires.0 s.args.block s.requires.1.1 (active c.before.before))
+    let s = c in
+    rw (c.load-own.ensures, waters-told c) (lengths_ready s.args.g s.args.slots.now s.requires.0 s.args.block s.requires.1.1 (active c.before.before))
 
-lengths-told : (c : tie.After-lengths-on) → c.lengths-on.result ≡ lengths_of (block_of c.before.before.before.before.before.args.slots.now c.before.before.before.before.before.args.block) (new_levels c.before.before.before.before.before.args.g c.before.before.before.before.before.args.slots.now c.before.before.before.before.before.args.block)
+lengths-told : (c : tie.After-lengths_on) → c.lengths_on.result ≡ lengths_of (block_of c.args.slots.now c.args.block) (new_levels c.args.g c.args.slots.now c.args.block)
 lengths-told c =
-    let s = c.before.before.before.before.before in
-    lengths_are s.args.g s.args.slots.now s.requires.0 s.args.block s.requires.1.1 (active c.before.before.before) c.before.before.load.result c.before.pair.result c.lengths-on.result c.before.before.load.ensures (waters-told c.before) c.lengths-on.ensures
+    let s = c in
+    lengths_are s.args.g s.args.slots.now s.requires.0 s.args.block s.requires.1.1 (active c.before.before.before) c.load-own.result c.pair.result c.lengths_on.result c.load-own.ensures (waters-told c.before) c.lengths_on.ensures
 
-is-dry-requires : tie.Need-is-dry-requires
+is-dry-requires : tie.Need-is_dry-requires
 is-dry-requires c κs =
-    let s = c.before.before.before.before.before in (
-      rw c.before.before.load.ensures (active_ends s.args.g s.args.slots.now s.requires.0 s.args.block s.requires.1.1 (active c.before.before.before)),
+    let s = c in (
+      rw c.load-own.ensures (active_ends s.args.g s.args.slots.now s.requires.0 s.args.block s.requires.1.1 (active c.before.before.before)),
       rw (lengths-told c) (lengths_in s.args.g s.args.slots.now s.requires.0 s.args.block s.requires.1.1 (active c.before.before.before)),
     )
 
-returns : tie.Need-returns
+returns : tie.Need-returns-then-is_active
 unfolding dry_at
-returns c = rw (active c.before.before.before.before) (c.is-dry.ensures ∙ ap₂ is_dry c.before.before.before.load.ensures (lengths-told c.before))
+returns c = rw (active c.before.before.before.before) (c.is_dry.ensures ∙ ap₂ is_dry c.load-own.ensures (lengths-told c.before))
 
-returns-2 : tie.Need-returns-2
+returns-2 : tie.Need-returns
 unfolding dry_at
-returns-2 c = rw (sym c.before.is-active.ensures ∙ c.if1.false)
+returns-2 c = rw (sym c.is_active.ensures ∙ c.if-is_active.false)
 
-pub is-dry-at-spec : {M : Type 1} → statement M
-is-dry-at-spec =
+pub is_dry_at_spec : {M : Type 1} → statement M
+is_dry_at_spec =
     tie.close
     (tie.spec
     (λ c κs. search rules)

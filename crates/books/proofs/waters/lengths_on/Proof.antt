@@ -6,17 +6,17 @@ use Rattle.block.specs.Wells.{lengths_of}
 use Rattle.books.proofs.waters.lengths_on.Statement.{statement}
 use Rattle.books.proofs.waters.lengths_on.Tie as tie
 
-levels-told : (c : tie.After-levels-on) → c.levels-on.result ≡ levels_on c.before.before.args.block.base c.before.before.args.waters
-levels-told c = c.levels-on.ensures ∙ ap (λ z. levels_on z c.before.before.args.waters) (read c.before.before.requires.0.base tt)
+levels-told : (c : tie.After-levels_on) → c.levels_on.result ≡ levels_on c.args.block.base c.args.waters
+levels-told c = c.levels_on.ensures ∙ ap (λ z. levels_on z c.args.waters) (read c.requires.0.base tt)
 
-levels-on-requires : tie.Need-levels-on-requires
-levels-on-requires c κs = (rw (read c.before.requires.0.base tt) c.before.requires.0.base, c.before.requires.1.0)
+levels-on-requires : tie.Need-levels_on-requires
+levels-on-requires c κs = (rw (read c.requires.0.base tt) c.requires.0.base, c.requires.1.0)
 
-screen-lengths-requires : tie.Need-screen-lengths-requires
-screen-lengths-requires c κs = (c.before.before.requires.0, rw (levels-told c) c.before.before.requires.1.1)
+screen-lengths-requires : tie.Need-screen_lengths-requires
+screen-lengths-requires c κs = (c.requires.0, rw (levels-told c) c.requires.1.1)
 
 returns : tie.Need-returns
-returns c = c.screen-lengths.ensures ∙ ap (lengths_of c.before.before.before.args.block) (levels-told c.before)
+returns c = c.screen_lengths.ensures ∙ ap (lengths_of c.args.block) (levels-told c.before)
 
-pub lengths-on-spec : {M : Type 1} → statement M
-lengths-on-spec = tie.close (tie.spec levels-on-requires screen-lengths-requires returns)
+pub lengths_on_spec : {M : Type 1} → statement M
+lengths_on_spec = tie.close (tie.spec levels-on-requires screen-lengths-requires returns)
