@@ -42,7 +42,7 @@ counted-requires c κs =
 
 returns : tie.Need-returns-then-refusal-ne0
 returns c =
-    let e = judging_stays c.shape-refusal.result (first_refusal (shape_of (caseGiven c.before.before.before.before.before.before.before))) (after_counts c.counted-g.result c.args.file.now c.in-Done.next) c.shape-refusal.ensures c.if-refusal-ne0.true in
+    let e = judging_stays c.shape-refusal.result (first_refusal (shape_of (caseGiven c.before.before.before.before))) (after_counts c.counted-g.result c.args.file.now c.in-Done.next) c.shape-refusal.ensures c.if-refusal-ne0.true in
     rw (whole c.before.before.before.before ∙ e) (c.refused-then-refusal-ne0.ensures, (refl, (refl, refl)))
 
 read-density-requires : tie.Need-read_density-requires
@@ -55,7 +55,7 @@ returns-2 c =
 
 returns-3 : tie.Need-returns-else-refusal-ne0
 returns-3 c =
-    let e = judging_goes_on c.shape-refusal.result (first_refusal (shape_of (caseGiven c.before.before.before.before.before.before.before.before.before.before.before.before.before))) (after_counts c.counted-g.result c.args.file.now c.in-Done.next) c.shape-refusal.ensures c.if-refusal-ne0.false in
+    let e = judging_goes_on c.shape-refusal.result (first_refusal (shape_of (caseGiven c.before.before.before.before.before.before.before.before.before.before))) (after_counts c.counted-g.result c.args.file.now c.in-Done.next) c.shape-refusal.ensures c.if-refusal-ne0.false in
     rw (whole c.before.before.before.before.before.before.before.before.before.before ∙ e) c.read_density.ensures
 
 pub read_case_spec : {M : Type 1} → statement M

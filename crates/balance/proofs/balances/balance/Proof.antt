@@ -11,47 +11,47 @@ use Rattle.balance.proofs.balances.balance.Statement.{statement}
 use Rattle.balance.proofs.balances.balance.Tie as tie
 
 -- the terms, with their ranges
-net-told : (c : tie.After-flows) → Bounds c.flows.result
+net-told : (c : tie.After-flows-net) → Bounds c.flows-net.result
 net-told c =
-    let s = c.before in
-    b_eq c.flows.ensures (flows_in (case_of s.args.g s.args.columns.now s.args.rows.now s.args.slots.now) s.requires.0 s.args.fluid s.args.block s.requires.1.1.0)
+    let s = c in
+    b_eq c.flows-net.ensures (flows_in (case_of s.args.g s.args.columns.now s.args.rows.now s.args.slots.now) s.requires.0 s.args.fluid s.args.block s.requires.1.1.0)
 
-recharge-told : (c : tie.After-own-terms) → Bounds c.own-terms.result.recharge
+recharge-told : (c : tie.After-own_terms-own) → Bounds c.own_terms-own.result.recharge
 recharge-told c =
-    let s = c.before.before in
-    b_eq (ap (λ o. o.recharge) c.own-terms.ensures) (own_recharge_in (case_of s.args.g s.args.columns.now s.args.rows.now s.args.slots.now) s.requires.0 s.args.fluid s.args.block s.requires.1.1.0 s.requires.1.1.1.1)
+    let s = c in
+    b_eq (ap (λ o. o.recharge) c.own_terms-own.ensures) (own_recharge_in (case_of s.args.g s.args.columns.now s.args.rows.now s.args.slots.now) s.requires.0 s.args.fluid s.args.block s.requires.1.1.0 s.requires.1.1.1.1)
 
-boundary-told : (c : tie.After-own-terms) → Bounds c.own-terms.result.boundary
+boundary-told : (c : tie.After-own_terms-own) → Bounds c.own_terms-own.result.boundary
 boundary-told c =
-    let s = c.before.before in
-    b_eq (ap (λ o. o.boundary) c.own-terms.ensures) (own_boundary_in (case_of s.args.g s.args.columns.now s.args.rows.now s.args.slots.now) s.requires.0 s.args.fluid s.args.block s.requires.1.1.0 s.requires.1.1.1.1)
+    let s = c in
+    b_eq (ap (λ o. o.boundary) c.own_terms-own.ensures) (own_boundary_in (case_of s.args.g s.args.columns.now s.args.rows.now s.args.slots.now) s.requires.0 s.args.fluid s.args.block s.requires.1.1.0 s.requires.1.1.1.1)
 
-pumped-told : (c : tie.After-own-terms) → Bounds c.own-terms.result.pumped
+pumped-told : (c : tie.After-own_terms-own) → Bounds c.own_terms-own.result.pumped
 pumped-told c =
-    let s = c.before.before in
-    b_eq (ap (λ o. o.pumped) c.own-terms.ensures) (own_pumped_in (case_of s.args.g s.args.columns.now s.args.rows.now s.args.slots.now) s.requires.0 s.args.fluid s.args.block s.requires.1.1.0 s.requires.1.1.1.1)
+    let s = c in
+    b_eq (ap (λ o. o.pumped) c.own_terms-own.ensures) (own_pumped_in (case_of s.args.g s.args.columns.now s.args.rows.now s.args.slots.now) s.requires.0 s.args.fluid s.args.block s.requires.1.1.0 s.requires.1.1.1.1)
 
-storage-told : (c : tie.After-own-terms) → Bounds c.own-terms.result.storage
+storage-told : (c : tie.After-own_terms-own) → Bounds c.own_terms-own.result.storage
 storage-told c =
-    let s = c.before.before in
-    b_eq (ap (λ o. o.storage) c.own-terms.ensures) (own_storage_in (case_of s.args.g s.args.columns.now s.args.rows.now s.args.slots.now) s.requires.0 s.args.fluid s.args.block s.requires.1.1.0 s.requires.1.1.1.1)
+    let s = c in
+    b_eq (ap (λ o. o.storage) c.own_terms-own.ensures) (own_storage_in (case_of s.args.g s.args.columns.now s.args.rows.now s.args.slots.now) s.requires.0 s.args.fluid s.args.block s.requires.1.1.0 s.requires.1.1.1.1)
 
-own-terms-requires : tie.Need-own-terms-requires
-own-terms-requires c κs = c.before.requires
+own-terms-requires : tie.Need-own_terms-own-requires
+own-terms-requires c κs = c.requires
 
-add-result : tie.Need-overflow-add-result
+add-result : tie.Need-overflow_add-result
 unfolding net-told recharge-told boundary-told pumped-told storage-told
 add-result c = fits (search (ranges, net-told c.before.before.before, recharge-told c.before.before) depth 20) tt
 
-add-result-2 : tie.Need-overflow-add-result-2
+add-result-2 : tie.Need-overflow_add-result-2
 unfolding net-told recharge-told boundary-told pumped-told storage-told
 add-result-2 c = fits (search (ranges, net-told c.before.before.before.before.before, recharge-told c.before.before.before.before, boundary-told c.before.before.before.before) depth 20) tt
 
-sub-result : tie.Need-overflow-sub-result
+sub-result : tie.Need-overflow_sub-result
 unfolding net-told recharge-told boundary-told pumped-told storage-told
 sub-result c = fits (search (ranges, net-told c.before.before.before.before.before.before.before, recharge-told c.before.before.before.before.before.before, boundary-told c.before.before.before.before.before.before, pumped-told c.before.before.before.before.before.before) depth 20) tt
 
-sub-result-2 : tie.Need-overflow-sub-result-2
+sub-result-2 : tie.Need-overflow_sub-result-2
 unfolding net-told recharge-told boundary-told pumped-told storage-told
 sub-result-2 c = fits (search (ranges, net-told c.before.before.before.before.before.before.before.before.before, recharge-told c.before.before.before.before.before.before.before.before, boundary-told c.before.before.before.before.before.before.before.before, pumped-told c.before.before.before.before.before.before.before.before, storage-told c.before.before.before.before.before.before.before.before) depth 20) tt
 
@@ -59,5 +59,5 @@ returns : tie.Need-returns
 unfolding net-told recharge-told boundary-told pumped-told storage-told balance_in books_of
 returns c = exact (search (ranges, net-told c.before.before.before.before.before.before.before.before.before, recharge-told c.before.before.before.before.before.before.before.before, boundary-told c.before.before.before.before.before.before.before.before, pumped-told c.before.before.before.before.before.before.before.before, storage-told c.before.before.before.before.before.before.before.before) depth 20)
 
-pub balance-spec : {M : Type 1} → statement M
-balance-spec = tie.close (tie.spec (λ c κs. search rules) own-terms-requires add-result add-result-2 sub-result sub-result-2 returns)
+pub balance_spec : {M : Type 1} → statement M
+balance_spec = tie.close (tie.spec (λ c κs. search rules) own-terms-requires add-result add-result-2 sub-result sub-result-2 returns)

@@ -11,37 +11,37 @@ use Rattle.balance.specs.Balance.{balances_of}
 use Rattle.balance.proofs.balances.fill_balances.Statement.{statement}
 use Rattle.balance.proofs.balances.fill_balances.Tie as tie
 
-abbrev invariant-loop : tie.invariant-loop
+abbrev invariant-loop : tie.invariant-loop-block
 invariant-loop g columns rows slots waters row₀ total block₀ row block = (block ≤ total) × ((length row ≡ length row₀) × (row ≡ filled_of block (balances_of (case_of g columns rows slots)) row₀))
 
-abbrev decreases-loop : tie.decreases-loop
+abbrev decreases-loop : tie.decreases-loop-block
 decreases-loop g columns rows slots waters row₀ total block₀ row block = total - block
 
-loop-holds : tie.Need-loop-init invariant-loop decreases-loop
+loop-holds : tie.Need-loop-block-init invariant-loop decreases-loop
 loop-holds c =
-    let s = c.before.args in
+    let s = c.args in
     (omega arith, (refl, sym (filled_start (balances_of (case_of s.g s.columns.now s.rows.now s.slots.now)) s.row.now)))
 
-balances-of-requires : tie.Need-balances-of-requires invariant-loop decreases-loop
-balances-of-requires c κs = (c.before.before.before.requires.0, (c.before.before.before.requires.1.0, omega arith))
+balances-of-requires : tie.Need-balances_of-both-requires invariant-loop decreases-loop
+balances-of-requires c κs = (c.requires.0, (c.requires.1.0, omega arith))
 
-loop-again : tie.Need-loop-preserved invariant-loop decreases-loop
+loop-again : tie.Need-loop-block-preserved invariant-loop decreases-loop
 loop-again c =
-    let l = c.before.before.before.before.before.loop in (
+    let l = c.loop-block in (
       omega arith,
       (
-        c.before.put.auto.0 ∙ l.invariant.1.0,
-        filled_turn l.block _ _ l.invariant.1.1 c.before.before.before.balances-of.ensures c.before.put.ensures,
+        c.put.auto.row ∙ l.invariant.1.0,
+        filled_turn l.block _ _ l.invariant.1.1 c.balances_of-both.ensures c.put.ensures,
       ),
     )
 
 returns : tie.Need-returns invariant-loop decreases-loop
 returns c =
-    let e : c.before.loop.block ≡ blocks_of c.before.before.before.args.g = omega arith in
-    rw (← e) c.before.loop.invariant.1.1
+    let e : c.loop-block.block ≡ blocks_of c.args.g = omega arith in
+    rw (← e) c.loop-block.invariant.1.1
 
-pub fill-balances-spec : {M : Type 1} → statement M
-fill-balances-spec =
+pub fill_balances_spec : {M : Type 1} → statement M
+fill_balances_spec =
     tie.close
     (tie.spec
     invariant-loop
@@ -53,5 +53,5 @@ fill-balances-spec =
     (λ c. omega arith)
     (λ c. omega arith)
     loop-again
-    (λ c. c.before.loop.invariant.1.0)
+    (λ c. c.loop-block.invariant.1.0)
     returns)
