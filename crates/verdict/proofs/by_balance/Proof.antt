@@ -10,24 +10,24 @@ use Rattle.verdict.proofs.RulingLaws.{first_place_short}
 use Rattle.verdict.proofs.by_balance.Statement.{statement}
 use Rattle.verdict.proofs.by_balance.Tie as tie
 
-first_short : (c : tie.After-first-place) → c.first-place.result ≤ 1024
+first_short : (c : tie.After-first_place-first) → c.first_place-first.result ≤ 1024
 first_short c =
-    let s = c.before.args in
-    rw c.first-place.ensures (first_place_short s.g s.slots.now (pair_of s.balances.now) 23 c.before.requires.0)
+    let s = c.args in
+    rw c.first_place-first.ensures (first_place_short s.g s.slots.now (pair_of s.balances.now) 23 c.requires.0)
 
-add-t7 : tie.Need-overflow-add-t7
+add-t7 : tie.Need-overflow_add-result
 add-t7 c = omega (arith, first_short c.before)
 
 returns : tie.Need-returns
 unfolding by_balance
 returns c =
-    let first = c.before.before.before.first-place.ensures in
+    let first = c.first_place-first.ensures in
     λ i. record {
-      code = (c.before.before.code_of_lem.ensures ∙ ap code_of first) i;
+      code = (c.code_of.ensures ∙ ap code_of first) i;
       block = block_number (first i);
-      count = c.before.count_places.ensures i;
-      largest = answer c.largest.type-inv c.largest.ensures i;
+      count = c.count_places.ensures i;
+      largest = answer c.largest.type_inv c.largest.ensures i;
     }
 
-pub by-balance-spec : {M : Type 1} → statement M
-by-balance-spec = tie.close (tie.spec (λ c κs. search rules) (λ c κs. first_short c) add-t7 (λ c κs. search rules) (λ c κs. search rules) returns)
+pub by_balance_spec : {M : Type 1} → statement M
+by_balance_spec = tie.close (tie.spec (λ c κs. search rules) (λ c κs. first_short c) add-t7 (λ c κs. search rules) (λ c κs. search rules) returns)

@@ -5,8 +5,8 @@ use Rattle.verdict.proofs.RulingLaws.{code_found}
 use Rattle.verdict.proofs.code_of.Statement.{statement}
 use Rattle.verdict.proofs.code_of.Tie as tie
 
-returns : tie.Need-returns
-returns c = rw c.if1.true
+returns : tie.Need-returns-then-first-eq0
+returns c = rw c.if-first-eq0.true
 
-pub code-of-spec : {M : Type 1} → statement M
-code-of-spec = tie.close (tie.spec returns (λ c. omega arith) (λ c. search rules) (λ c. code_found c.before.args.first c.if1.false))
+pub code_of_spec : {M : Type 1} → statement M
+code_of_spec = tie.close (tie.spec returns (λ c. omega arith) (λ c. search rules) (λ c. code_found c.args.first c.if-first-eq0.false))

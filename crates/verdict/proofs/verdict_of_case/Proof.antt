@@ -21,28 +21,28 @@ room c = omega (arith, c.requires.judged.counted.blocks_most)
 ready : (c : tie.Start) → Slotted c.args.g c.args.slots.now
 ready c = slotted (case_of c.args.g c.args.columns.now c.args.rows.now c.args.slots.now) c.requires.judged
 
-watered : (c : tie.After-fill-waters) → Watered c.before.before.args.g c.before.before.args.slots.now c.fill-waters.new.1.1.0
-watered c = filled_watered _ _ _ (ready c.before.before) c.fill-waters.ensures (le_refl 1024)
+watered : (c : tie.After-fill_waters) → Watered c.args.g c.args.slots.now c.fill_waters.new.row
+watered c = filled_watered _ _ _ (ready c.before.before) c.fill_waters.ensures (le_refl 1024)
 
-fill-balances-requires : tie.Need-fill-balances-requires
-fill-balances-requires c κs = (c.before.before.before.before.before.requires, (watered c.before.before.before, room c.before.before.before.before.before))
+fill-balances-requires : tie.Need-fill_balances-requires
+fill-balances-requires c κs = (c.requires, (watered c.before.before.before, room c.before.before.before.before.before))
 
-verdict-of-rows-requires : tie.Need-verdict-of-rows-requires
+verdict-of-rows-requires : tie.Need-verdict_of_rows-requires
 verdict-of-rows-requires c κs =
     let s = c.before.before.before.before.before.before.before.before.before in
-    (ready s, (watered c.before.before.before.before.before.before.before, rw c.before.before.before.fill-balances.ensures (filled_bounded (case_of s.args.g s.args.columns.now s.args.rows.now s.args.slots.now) s.requires _ (room s))))
+    (ready s, (watered c.before.before.before.before.before.before.before, rw c.fill_balances.ensures (filled_bounded (case_of s.args.g s.args.columns.now s.args.rows.now s.args.slots.now) s.requires _ (room s))))
 
 returns : tie.Need-returns
 unfolding verdict_of
 returns c =
-    let s = c.before.before.before.before.before.before.before.before.before.before in
+    let s = c in
     let k = case_of s.args.g s.args.columns.now s.args.rows.now s.args.slots.now in
-    c.verdict-of-rows.ensures
-    ∙ verdict_same s.args.g s.args.slots.now (pair_of c.before.before.before.before.fill-balances.new.1.1.1.1.1.0) (balances_of k)
-    (filled_balanced k _ s.requires.judged.counted c.before.before.before.before.fill-balances.ensures (le_refl 1024)).each
+    c.verdict_of_rows.ensures
+    ∙ verdict_same s.args.g s.args.slots.now (pair_of c.fill_balances.new.row) (balances_of k)
+    (filled_balanced k _ s.requires.judged.counted c.fill_balances.ensures (le_refl 1024)).each
 
-pub verdict-of-case-spec : {M : Type 1} → statement M
-verdict-of-case-spec =
+pub verdict_of_case_spec : {M : Type 1} → statement M
+verdict_of_case_spec =
     tie.close
     (tie.spec
     (λ c. search rules)

@@ -8,26 +8,26 @@ use Rattle.verdict.specs.Ruling.{first_place, verdict_by}
 use Rattle.verdict.proofs.verdict_of_rows.Statement.{statement}
 use Rattle.verdict.proofs.verdict_of_rows.Tie as tie
 
-moved : (c : tie.After-first-place) → first_place c.before.args.g c.before.args.slots.now (pair_of c.before.args.balances.now) 21 ≡ c.first-place.result
-moved c = sym c.first-place.ensures
+moved : (c : tie.After-first_place-moved) → first_place c.args.g c.args.slots.now (pair_of c.args.balances.now) 21 ≡ c.first_place-moved.result
+moved c = sym c.first_place-moved.ensures
 
-dry : (c : tie.After-first-place2) → first_place c.before.before.before.args.g c.before.before.before.args.slots.now (pair_of c.before.before.before.args.balances.now) 22 ≡ c.first-place2.result
-dry c = sym c.first-place2.ensures
+dry : (c : tie.After-first_place-dry) → first_place c.args.g c.args.slots.now (pair_of c.args.balances.now) 22 ≡ c.first_place-dry.result
+dry c = sym c.first_place-dry.ensures
 
-returns : tie.Need-returns
+returns : tie.Need-returns-then-moved-gt0
 unfolding verdict_by
-returns c = rw (moved c.before.before, lt-ltb 0 c.before.before.first-place.result (omega arith)) c.concerned.ensures
+returns c = rw (moved c.before.before, lt-ltb 0 c.first_place-moved.result (omega arith)) c.concerned.ensures
 
-returns-2 : tie.Need-returns-2
+returns-2 : tie.Need-returns-then-dry-gt0
 unfolding verdict_by
-returns-2 c = rw (moved c.before.before.before.before, le-ltb 0 c.before.before.before.before.first-place.result (omega arith), dry c.before.before, lt-ltb 0 c.before.before.first-place2.result (omega arith)) c.concerned2.ensures
+returns-2 c = rw (moved c.before.before.before.before, le-ltb 0 c.first_place-moved.result (omega arith), dry c.before.before, lt-ltb 0 c.first_place-dry.result (omega arith)) c.concerned-then-dry-gt0.ensures
 
-returns-3 : tie.Need-returns-3
+returns-3 : tie.Need-returns
 unfolding verdict_by
-returns-3 c = rw (moved c.before.before.before.before, le-ltb 0 c.before.before.before.before.first-place.result (omega arith), dry c.before.before, le-ltb 0 c.before.before.first-place2.result (omega arith)) c.by-balance.ensures
+returns-3 c = rw (moved c.before.before.before.before, le-ltb 0 c.first_place-moved.result (omega arith), dry c.before.before, le-ltb 0 c.first_place-dry.result (omega arith)) c.by_balance.ensures
 
-pub verdict-of-rows-spec : {M : Type 1} → statement M
-verdict-of-rows-spec =
+pub verdict_of_rows_spec : {M : Type 1} → statement M
+verdict_of_rows_spec =
     tie.close
     (tie.spec
     (λ c κs. search rules)

@@ -9,19 +9,19 @@ use Rattle.verdict.specs.Places.{free_at}
 use Rattle.verdict.proofs.places.is_free.Statement.{statement}
 use Rattle.verdict.proofs.places.is_free.Tie as tie
 
-active : (c : tie.After-is-active) → active_of c.before.args.slots.now c.before.args.block ≡ c.is-active.result
-active c = sym c.is-active.ensures
+active : (c : tie.After-is_active) → active_of c.args.slots.now c.args.block ≡ c.is_active.result
+active c = sym c.is_active.ensures
 
-is-fixed-requires : tie.Need-is-fixed-requires
-is-fixed-requires c κs = rw c.load.ensures (c.before.before.before.requires.ends (holds (active c.before.before ∙ c.before.if1.true)))
+is-fixed-requires : tie.Need-is_fixed-requires
+is-fixed-requires c κs = rw c.load.ensures (c.requires.ends (holds (active c.before.before ∙ c.if-is_active.true)))
 
-returns : tie.Need-returns
+returns : tie.Need-returns-then-is_active
 unfolding free_at
-returns c = rw (active c.before.before.before ∙ c.before.before.if1.true) (ap not (c.is-fixed.ensures ∙ ap (λ b. fixed_of b c.before.before.before.before.args.fluid) c.before.load.ensures))
+returns c = rw (active c.before.before.before ∙ c.if-is_active.true) (ap not (c.is_fixed.ensures ∙ ap (λ b. fixed_of b c.args.fluid) c.load.ensures))
 
-returns-2 : tie.Need-returns-2
+returns-2 : tie.Need-returns
 unfolding free_at
-returns-2 c = rw (active c.before ∙ c.if1.false)
+returns-2 c = rw (active c.before ∙ c.if-is_active.false)
 
-pub is-free-spec : {M : Type 1} → statement M
-is-free-spec = tie.close (tie.spec (λ c κs. search rules) (λ c κs. search rules) is-fixed-requires returns returns-2)
+pub is_free_spec : {M : Type 1} → statement M
+is_free_spec = tie.close (tie.spec (λ c κs. search rules) (λ c κs. search rules) is-fixed-requires returns returns-2)

@@ -15,46 +15,46 @@ use Rattle.verdict.proofs.PlacesLaws.{block_below}
 use Rattle.verdict.proofs.search.count_places.Statement.{statement}
 use Rattle.verdict.proofs.search.count_places.Tie as tie
 
-abbrev invariant-loop : tie.invariant-loop
+abbrev invariant-loop : tie.invariant-loop-place
 invariant-loop g slots waters balances code places counted₀ place₀ counted place = (place ≤ places) × (counted ≡ count place (counted_by g slots (pair_of balances) code))
 
-abbrev decreases-loop : tie.decreases-loop
+abbrev decreases-loop : tie.decreases-loop-place
 decreases-loop g slots waters balances code places counted₀ place₀ counted place = places - place
 
-loop-holds : tie.Need-loop-init invariant-loop decreases-loop
+loop-holds : tie.Need-loop-place-init invariant-loop decreases-loop
 loop-holds c =
-    let s = c.before.args in
+    let s = c.args in
     (omega arith, sym (count_start (counted_by s.g s.slots.now (pair_of s.balances.now) s.code)))
 
-counted-at-requires : tie.Need-counted-at-requires invariant-loop decreases-loop
+counted-at-requires : tie.Need-counted_at-requires invariant-loop decreases-loop
 counted-at-requires c κs =
-    let h = c.before.before.before.requires in
-    (h.0, (h.1.0, (h.1.1, block_below (blocks_of c.before.before.before.args.g) c.before.loop.place (omega arith))))
+    let h = c.requires in
+    (h.0, (h.1.0, (h.1.1, block_below (blocks_of c.args.g) c.loop-place.place (omega arith))))
 
 -- a test adds one where it is passed
-turn : (c : tie.Joined1 invariant-loop decreases-loop) → c.if1.count ≡ c.before.before.before.loop.count + cond (counted_by c.before.before.before.before.before.args.g c.before.before.before.before.before.args.slots.now (pair_of c.before.before.before.before.before.args.balances.now) c.before.before.before.before.before.args.code c.before.before.before.loop.place) 1 0
+turn : (c : tie.Joined-counted_at invariant-loop decreases-loop) → c.if-counted_at.count ≡ c.loop-place.count + cond (counted_by c.args.g c.args.slots.now (pair_of c.args.balances.now) c.args.code c.loop-place.place) 1 0
 turn c =
-    ⊎_elim (λ w. w.1 ∙ rw (sym c.before.counted-at.ensures ∙ w.0.taken)) (λ w. w.1 ∙ rw (sym c.before.counted-at.ensures ∙ w.0.left, add-zero)) c.if1.branch
+    ⊎_elim (λ w. w.1 ∙ rw (sym c.counted_at.ensures ∙ w.0.taken)) (λ w. w.1 ∙ rw (sym c.counted_at.ensures ∙ w.0.left, add-zero)) c.if-counted_at.branch
 
-add-count : tie.Need-overflow-add-count invariant-loop decreases-loop
+add-count : tie.Need-overflow_add-count invariant-loop decreases-loop
 add-count c =
-    let s = c.before.before.before.before.before.args in
-    omega (arith, count_most c.before.before.before.loop.place (counted_by s.g s.slots.now (pair_of s.balances.now) s.code))
+    let s = c.args in
+    omega (arith, count_most c.loop-place.place (counted_by s.g s.slots.now (pair_of s.balances.now) s.code))
 
-loop-again : tie.Need-loop-preserved invariant-loop decreases-loop
+loop-again : tie.Need-loop-place-preserved invariant-loop decreases-loop
 loop-again c =
-    let s = c.before.before.before.before.before.args in
+    let s = c.args in
     let test = counted_by s.g s.slots.now (pair_of s.balances.now) s.code in
-    (omega arith, turn c ∙ ap (λ (k : ℕ). k + cond (test c.before.before.before.loop.place) 1 0) c.before.before.before.loop.invariant.1 ∙ sym (count_more c.before.before.before.loop.place test))
+    (omega arith, turn c ∙ ap (λ (k : ℕ). k + cond (test c.loop-place.place) 1 0) c.loop-place.invariant.1 ∙ sym (count_more c.loop-place.place test))
 
 returns : tie.Need-returns invariant-loop decreases-loop
 unfolding count_of
 returns c =
-    let e : c.before.loop.place ≡ places_of c.before.before.before.args.g = omega arith in
-    rw (← e) c.before.loop.invariant.1
+    let e : c.loop-place.place ≡ places_of c.args.g = omega arith in
+    rw (← e) c.loop-place.invariant.1
 
-pub count-places-spec : {M : Type 1} → statement M
-count-places-spec =
+pub count_places_spec : {M : Type 1} → statement M
+count_places_spec =
     tie.close
     (tie.spec
     invariant-loop

@@ -15,34 +15,34 @@ use Rattle.verdict.specs.Ruling.{largest_of}
 use Rattle.verdict.proofs.search.largest.Statement.{statement}
 use Rattle.verdict.proofs.search.largest.Tie as tie
 
-abbrev invariant-loop : tie.invariant-loop
+abbrev invariant-loop : tie.invariant-loop-place
 invariant-loop g slots balances places most₀ place₀ most place = (place ≤ places) × (to_z w64 most ≡ most_of place (free_size_of slots (pair_of balances)))
 
-abbrev decreases-loop : tie.decreases-loop
+abbrev decreases-loop : tie.decreases-loop-place
 decreases-loop g slots balances places most₀ place₀ most place = places - place
 
-loop-holds : tie.Need-loop-init invariant-loop decreases-loop
-loop-holds c = (omega arith, sym (most_start (free_size_of c.before.args.slots.now (pair_of c.before.args.balances.now))))
+loop-holds : tie.Need-loop-place-init invariant-loop decreases-loop
+loop-holds c = (omega arith, sym (most_start (free_size_of c.args.slots.now (pair_of c.args.balances.now))))
 
-free-size-requires : tie.Need-free-size-requires invariant-loop decreases-loop
-free-size-requires c κs = (c.before.before.before.requires.0, (c.before.before.before.requires.1, omega arith))
+free-size-requires : tie.Need-free_size-requires invariant-loop decreases-loop
+free-size-requires c κs = (c.requires.0, (c.requires.1, omega arith))
 
-loop-again : tie.Need-loop-preserved invariant-loop decreases-loop
+loop-again : tie.Need-loop-place-preserved invariant-loop decreases-loop
 loop-again c =
-    let sizes = free_size_of c.before.before.before.before.before.args.slots.now (pair_of c.before.before.before.before.before.args.balances.now) in (
+    let sizes = free_size_of c.args.slots.now (pair_of c.args.balances.now) in (
       omega arith,
-      answer c.greatest.type-inv (c.greatest.ensures ∙ ap₂ max_ℤ c.before.before.before.loop.invariant.1 (answer c.before.free-size.type-inv c.before.free-size.ensures))
-          ∙ sym (most_more sizes c.before.before.before.loop.place),
+      answer c.greatest-most.type_inv (c.greatest-most.ensures ∙ ap₂ max_ℤ c.loop-place.invariant.1 (answer c.free_size.type_inv c.free_size.ensures))
+          ∙ sym (most_more sizes c.loop-place.place),
     )
 
 returns : tie.Need-returns invariant-loop decreases-loop
 unfolding largest_of
 returns c =
-    let e : c.before.loop.place ≡ places_of c.before.before.before.args.g = omega arith in
-    rw (← e) c.before.loop.invariant.1
+    let e : c.loop-place.place ≡ places_of c.args.g = omega arith in
+    rw (← e) c.loop-place.invariant.1
 
-pub largest-spec : {M : Type 1} → statement M
-largest-spec =
+pub largest_spec : {M : Type 1} → statement M
+largest_spec =
     tie.close
     (tie.spec
     invariant-loop

@@ -10,24 +10,24 @@ use Rattle.zone.specs.Zones.{marked_of}
 use Rattle.zone.proofs.exchange.at_edge.Statement.{statement}
 use Rattle.zone.proofs.exchange.at_edge.Tie as tie
 
-high-told : (c : tie.After-is-marked) → c.is-marked.result ≡ marked_of c.before.before.args.marks.now (c.before.before.args.block + stride_of c.before.before.args.g c.before.before.args.axis)
-high-told c = c.is-marked.ensures ∙ ap (λ (n : ℕ). marked_of c.before.before.args.marks.now (c.before.before.args.block + n)) c.before.stride.ensures
+high-told : (c : tie.After-is_marked-high) → c.is_marked-high.result ≡ marked_of c.args.marks.now (c.args.block + stride_of c.args.g c.args.axis)
+high-told c = c.is_marked-high.ensures ∙ ap (λ (n : ℕ). marked_of c.args.marks.now (c.args.block + n)) c.stride.ensures
 
-returns : tie.Need-returns
+returns : tie.Need-returns-then-is_marked
 unfolding at_edge
-returns c = rw (sym c.before.is-marked2.ensures ∙ c.if1.true) (ap not (high-told c.before.before))
+returns c = rw (sym c.is_marked.ensures ∙ c.if-is_marked.true) (ap not (high-told c.before.before))
 
-returns-2 : tie.Need-returns-2
+returns-2 : tie.Need-returns
 unfolding at_edge
-returns-2 c = rw (sym c.before.is-marked2.ensures ∙ c.if1.false) (high-told c.before.before)
+returns-2 c = rw (sym c.is_marked.ensures ∙ c.if-is_marked.false) (high-told c.before.before)
 
-pub at-edge-spec : {M : Type 1} → statement M
-at-edge-spec =
+pub at_edge_spec : {M : Type 1} → statement M
+at_edge_spec =
     tie.close
     (tie.spec
     (λ c κs. search rules)
     (λ c. search rules)
-    (λ c κs. rw c.stride.ensures c.before.requires.1)
-    (λ c κs. omega (arith, c.before.before.requires.1))
+    (λ c κs. rw c.stride.ensures c.requires.1)
+    (λ c κs. omega (arith, c.requires.1))
     returns
     returns-2)

@@ -8,7 +8,7 @@ brought-requires : tie.Need-brought-requires
 brought-requires c κs = (c.requires.0, (c.requires.1.0, (c.requires.1.1.0, (c.requires.1.1.1, omega arith))))
 
 returns : tie.Need-returns
-returns c = answer c.brought.type-inv c.brought.ensures
+returns c = answer c.brought.type_inv c.brought.ensures
 
-pub by-leakage-spec : {M : Type 1} → statement M
-by-leakage-spec = tie.close (tie.spec brought-requires returns)
+pub by_leakage_spec : {M : Type 1} → statement M
+by_leakage_spec = tie.close (tie.spec brought-requires returns)

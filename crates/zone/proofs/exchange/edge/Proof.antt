@@ -14,41 +14,41 @@ use Rattle.zone.proofs.TermLaws.{edge_at, edge_outside}
 use Rattle.zone.proofs.exchange.edge.Statement.{statement}
 use Rattle.zone.proofs.exchange.edge.Tie as tie
 
-next : (c : tie.After-has-next) → next_of c.before.args.g c.before.args.axis c.before.args.block ≡ c.has-next.result
-next c = next_told c.before.args.g c.before.args.axis c.before.args.block c.before.args.place c.has-next.result c.before.requires.1.1.1.1.0 c.has-next.ensures
+next : (c : tie.After-has_next) → next_of c.args.g c.args.axis c.args.block ≡ c.has_next.result
+next c = next_told c.args.g c.args.axis c.args.block c.args.place c.has_next.result c.requires.1.1.1.1.0 c.has_next.ensures
 
-at-edge-requires : tie.Need-at-edge-requires
+at-edge-requires : tie.Need-at_edge-requires
 at-edge-requires c κs =
-    let s = c.before.before in
+    let s = c in
     let counted = s.requires.0.judged.counted in
-    (counted, omega (arith, next_inside s.args.g counted s.args.axis s.args.block s.requires.1.1.1.0 (holds (next c.before ∙ c.if1.true)), s.requires.1.1.0))
+    (counted, omega (arith, next_inside s.args.g counted s.args.axis s.args.block s.requires.1.1.1.0 (holds (next c.before ∙ c.if-has_next.true)), s.requires.1.1.0))
 
 brought-requires : tie.Need-brought-requires
-brought-requires c κs = let h = c.before.before.before.before.before.requires in (h.0, (h.1.0, (h.1.1.1.0, (h.1.1.1.1.0, h.1.1.1.1.1))))
+brought-requires c κs = let h = c.requires in (h.0, (h.1.0, (h.1.1.1.0, (h.1.1.1.1.0, h.1.1.1.1.1))))
 
-returns : tie.Need-returns
+returns : tie.Need-returns-then-at_edge
 returns c =
-    let s = c.before.before.before.before.before.before.args in
-    rw (edge_at s.g (books_of (case_of s.g s.columns.now s.rows.now s.slots.now) s.fluid) (marked_of s.marks.now) s.axis s.block, sym c.before.before.before.at_Edge.ensures ∙ c.before.before.if2.true)
-    (answer c.brought.type-inv (c.brought.ensures ∙ ap (λ (b : Bool). brought_of (books_of (case_of s.g s.columns.now s.rows.now s.slots.now) s.fluid) b s.axis s.block) c.before.is-marked.ensures))
+    let s = c.args in
+    rw (edge_at s.g (books_of (case_of s.g s.columns.now s.rows.now s.slots.now) s.fluid) (marked_of s.marks.now) s.axis s.block, sym c.at_edge.ensures ∙ c.if-at_edge.true)
+    (answer c.brought.type_inv (c.brought.ensures ∙ ap (λ (b : Bool). brought_of (books_of (case_of s.g s.columns.now s.rows.now s.slots.now) s.fluid) b s.axis s.block) c.is_marked-low.ensures))
 
-returns-2 : tie.Need-returns-2
+returns-2 : tie.Need-returns-else-at_edge
 returns-2 c =
-    let s = c.before.before.before.before.args in
-    rw (edge_at s.g (books_of (case_of s.g s.columns.now s.rows.now s.slots.now) s.fluid) (marked_of s.marks.now) s.axis s.block, sym c.before.at_Edge.ensures ∙ c.if2.false)
+    let s = c.args in
+    rw (edge_at s.g (books_of (case_of s.g s.columns.now s.rows.now s.slots.now) s.fluid) (marked_of s.marks.now) s.axis s.block, sym c.at_edge.ensures ∙ c.if-at_edge.false)
 
-returns-3 : tie.Need-returns-3
+returns-3 : tie.Need-returns-else-has_next
 returns-3 c =
-    let s = c.before.before.args in
-    sym (edge_outside (case_of s.g s.columns.now s.rows.now s.slots.now) s.fluid (marked_of s.marks.now) s.axis s.block (next c.before ∙ c.if1.false))
+    let s = c.args in
+    sym (edge_outside (case_of s.g s.columns.now s.rows.now s.slots.now) s.fluid (marked_of s.marks.now) s.axis s.block (next c.before ∙ c.if-has_next.false))
 
-pub edge-spec : {M : Type 1} → statement M
-edge-spec =
+pub edge_spec : {M : Type 1} → statement M
+edge_spec =
     tie.close
     (tie.spec
     (λ c κs. search rules)
     at-edge-requires
-    (λ c κs. omega (arith, c.before.before.before.before.requires.1.1.0, c.before.before.before.before.requires.1.1.1.0))
+    (λ c κs. omega (arith, c.requires.1.1.0, c.requires.1.1.1.0))
     brought-requires
     returns
     returns-2

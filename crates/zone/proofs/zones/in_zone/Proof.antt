@@ -5,13 +5,13 @@ use Rattle.zone.specs.Zones.{in_zone}
 use Rattle.zone.proofs.zones.in_zone.Statement.{statement}
 use Rattle.zone.proofs.zones.in_zone.Tie as tie
 
-returns : tie.Need-returns
+returns : tie.Need-returns-then-is_marked
 unfolding in_zone
-returns c = rw (sym c.before.before.is-marked.ensures ∙ c.before.if1.true) c.is-active.ensures
+returns c = rw (sym c.is_marked.ensures ∙ c.if-is_marked.true) c.is_active.ensures
 
-returns-2 : tie.Need-returns-2
+returns-2 : tie.Need-returns
 unfolding in_zone
-returns-2 c = rw (sym c.before.is-marked.ensures ∙ c.if1.false)
+returns-2 c = rw (sym c.is_marked.ensures ∙ c.if-is_marked.false)
 
-pub in-zone-spec : {M : Type 1} → statement M
-in-zone-spec = tie.close (tie.spec (λ c κs. search rules) (λ c κs. search rules) returns returns-2)
+pub in_zone_spec : {M : Type 1} → statement M
+in_zone_spec = tie.close (tie.spec (λ c κs. search rules) (λ c κs. search rules) returns returns-2)

@@ -11,7 +11,7 @@ use Rattle.zone.proofs.zones.is_marked.Tie as tie
 
 returns : tie.Need-returns
 unfolding marked_of
-returns c = ap (lt_z (pos 0)) (read_back (get_or c.before.args.marks.now c.before.args.block (pos 0)) c.result.given)
+returns c = ap (lt_z (pos 0)) (read_back (get_or c.args.marks.now c.args.block (pos 0)) c.result-1.given)
 
-pub is-marked-spec : {M : Type 1} → statement M
-is-marked-spec = tie.close (tie.spec (λ c. search rules) (λ c. search rules) returns)
+pub is_marked_spec : {M : Type 1} → statement M
+is_marked_spec = tie.close (tie.spec (λ c. search rules) (λ c. search rules) returns)
