@@ -1,6 +1,5 @@
 -- `count_places` meets its contract. The invariant: the places passed are counted. Assumes nothing.
 use mathlib.Core.Bool.{cond}
-use mathlib.Core.Logic.{⊎_elim}
 use mathlib.Core.Path.{◌∙◌, ◌≡◌, ap, sym}
 use Prim.Native.Nat.{◌+◌, ◌-◌, ◌≤◌, ℕ}
 use native.Mathlib.Nat.{add-zero}
@@ -13,6 +12,7 @@ use Rattle.verdict.specs.Places.{counted_by, places_of}
 use Rattle.verdict.specs.Ruling.{count_of}
 use Rattle.verdict.proofs.PlacesLaws.{block_below}
 use Rattle.verdict.proofs.search.count_places.Statement.{statement}
+use Rattle.verdict.proofs.search.count_places.Lts.{then-counted_at, else-counted_at}
 use Rattle.verdict.proofs.search.count_places.Tie as tie
 
 abbrev invariant-loop : tie.invariant-loop-place
@@ -34,7 +34,10 @@ counted-at-requires c κs =
 -- a test adds one where it is passed
 turn : (c : tie.Joined-counted_at invariant-loop decreases-loop) → c.if-counted_at.count ≡ c.loop-place.count + cond (counted_by c.args.g c.args.slots.now (pair_of c.args.balances.now) c.args.code c.loop-place.place) 1 0
 turn c =
-    ⊎_elim (λ w. w.1 ∙ rw (sym c.counted_at.ensures ∙ w.0.taken)) (λ w. w.1 ∙ rw (sym c.counted_at.ensures ∙ w.0.left, add-zero)) c.if-counted_at.branch
+    elim c.if-counted_at.branch [
+      then-counted_at w ↦ w.count-is ∙ rw (sym c.counted_at.ensures ∙ w.if-counted_at.true)
+    | else-counted_at w ↦ w.count-is ∙ rw (sym c.counted_at.ensures ∙ w.if-counted_at.false, add-zero)
+    ]
 
 add-count : tie.Need-overflow_add-count invariant-loop decreases-loop
 add-count c =
