@@ -25,26 +25,26 @@ room c = omega (arith, c.requires.0.judged.counted.blocks_most)
 ready : (c : tie.Start) → Slotted c.args.g c.args.slots.now
 ready c = slotted (case_in c) c.requires.0.judged
 
-watered : (c : tie.After-fill-waters) → Watered c.before.before.args.g c.before.before.args.slots.now c.fill-waters.new.1.1.0
-watered c = filled_watered _ _ _ (ready c.before.before) c.fill-waters.ensures (le_refl 1024)
+watered : (c : tie.After-fill_waters) → Watered c.args.g c.args.slots.now c.fill_waters.new.row
+watered c = filled_watered _ _ _ (ready c.before.before) c.fill_waters.ensures (le_refl 1024)
 
-returns : tie.Need-returns
+returns : tie.Need-returns-then-block-gt0
 returns c =
     c.refused.ensures
-    ∙ rw (← c.before.before.first-dry.ensures) (dry_tabled c.before.before.first-dry.result (eighteen_of (case_in c.before.before.before.before.before.before.before) (marked_of c.before.before.before.before.before.before.before.args.marks.now)) c.before.if1.true)
+    ∙ rw (← c.first_dry-block.ensures) (dry_tabled c.first_dry-block.result (eighteen_of (case_in c.before.before.before.before.before.before.before) (marked_of c.args.marks.now)) c.if-block-gt0.true)
 
-balanced : (c : tie.After-fill-balances) → Row (blocks_of c.before.before.before.before.before.before.before.before.before.args.g) (balances_of (case_in c.before.before.before.before.before.before.before.before.before)) c.fill-balances.new.1.1.1.1.1.0
-balanced c = let s = c.before.before.before.before.before.before.before.before.before in filled_balanced (case_in s) _ s.requires.0.judged.counted c.fill-balances.ensures (le_refl 1024)
+balanced : (c : tie.After-fill_balances) → Row (blocks_of c.args.g) (balances_of (case_in c.before.before.before.before.before.before.before.before.before)) c.fill_balances.new.row
+balanced c = let s = c.before.before.before.before.before.before.before.before.before in filled_balanced (case_in s) _ s.requires.0.judged.counted c.fill_balances.ensures (le_refl 1024)
 
-returns-2 : tie.Need-returns-2
+returns-2 : tie.Need-returns
 returns-2 c =
     let s = c.before.before.before.before.before.before.before.before.before.before.before.before.before in
-    let dry = c.before.before.before.before.before.before.before.before.first-dry in
+    let dry = c.first_dry-block in
     (λ k. record { refusal = none; lines = c.table_on.ensures k })
-    ∙ rw (← dry.ensures) (wet_tabled dry.result (eighteen_of (case_in s) (marked_of s.args.marks.now)) (omega (arith, c.before.before.before.before.before.before.before.if1.false)))
+    ∙ rw (← dry.ensures) (wet_tabled dry.result (eighteen_of (case_in s) (marked_of s.args.marks.now)) (omega (arith, c.if-block-gt0.false)))
 
-pub account-spec : {M : Type 1} → statement M
-account-spec =
+pub account_spec : {M : Type 1} → statement M
+account_spec =
     tie.close
     (tie.spec
     (λ c. search rules)
@@ -55,8 +55,8 @@ account-spec =
     returns
     (λ c. search rules)
     (λ c. search rules)
-    (λ c κs. (c.before.before.before.before.before.before.before.before.requires.0, (watered c.before.before.before.before.before.before, room c.before.before.before.before.before.before.before.before)))
+    (λ c κs. (c.requires.0, (watered c.before.before.before.before.before.before, room c.before.before.before.before.before.before.before.before)))
     (λ c. search rules)
     (λ c. search rules)
-    (λ c κs. record { formed = c.before.before.before.before.before.before.before.before.before.before.before.before.requires.0; watered = watered c.before.before.before.before.before.before.before.before.before.before; balanced = balanced c.before.before.before; reach = c.before.before.before.before.before.before.before.before.before.before.before.before.requires.1 })
+    (λ c κs. record { formed = c.requires.0; watered = watered c.before.before.before.before.before.before.before.before.before.before; balanced = balanced c.before.before.before; reach = c.requires.1 })
     returns-2)

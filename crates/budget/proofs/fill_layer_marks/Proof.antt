@@ -11,36 +11,36 @@ use Rattle.budget.proofs.AnswersLaws.{marks_more, marks_start}
 use Rattle.budget.proofs.fill_layer_marks.Statement.{statement}
 use Rattle.budget.proofs.fill_layer_marks.Tie as tie
 
-abbrev invariant-loop : tie.invariant-loop
+abbrev invariant-loop : tie.invariant-loop-block
 invariant-loop g layer marks₀ total block₀ marks block = (block ≤ total) × ((length marks ≡ length marks₀) × (marks ≡ marks_of block (layer_zone g layer) marks₀))
 
-abbrev decreases-loop : tie.decreases-loop
+abbrev decreases-loop : tie.decreases-loop-block
 decreases-loop g layer marks₀ total block₀ marks block = total - block
 
-loop-holds : tie.Need-loop-init invariant-loop decreases-loop
-loop-holds c = (omega arith, (refl, sym (marks_start (layer_zone c.before.args.g c.before.args.layer) c.before.args.marks.now)))
+loop-holds : tie.Need-loop-block-init invariant-loop decreases-loop
+loop-holds c = (omega arith, (refl, sym (marks_start (layer_zone c.args.g c.args.layer) c.args.marks.now)))
 
-mark-in-layer-requires : tie.Need-mark-in-layer-requires invariant-loop decreases-loop
-mark-in-layer-requires c κs = (c.before.before.before.requires.0, omega arith)
+mark-in-layer-requires : tie.Need-mark_in_layer-mark-requires invariant-loop decreases-loop
+mark-in-layer-requires c κs = (c.requires.0, omega arith)
 
-loop-again : tie.Need-loop-preserved invariant-loop decreases-loop
+loop-again : tie.Need-loop-block-preserved invariant-loop decreases-loop
 loop-again c =
-    let s = c.before.before.before.before.args in
-    let l = c.before.before.loop in (
+    let s = c.args in
+    let l = c.loop-block in (
       omega arith,
       (
         simp length-set l.invariant.1.0,
-        (λ k. set (l.invariant.1.1 k) l.block (answer c.mark-in-layer.type-inv c.mark-in-layer.ensures k)) ∙ sym (marks_more l.block (layer_zone s.g s.layer) s.marks.now),
+        (λ k. set (l.invariant.1.1 k) l.block (answer c.mark_in_layer-mark.type_inv c.mark_in_layer-mark.ensures k)) ∙ sym (marks_more l.block (layer_zone s.g s.layer) s.marks.now),
       ),
     )
 
 returns : tie.Need-returns invariant-loop decreases-loop
 returns c =
-    let e : c.before.loop.block ≡ blocks_of c.before.before.before.args.g = omega arith in
-    rw (← e) c.before.loop.invariant.1.1
+    let e : c.loop-block.block ≡ blocks_of c.args.g = omega arith in
+    rw (← e) c.loop-block.invariant.1.1
 
-pub fill-layer-marks-spec : {M : Type 1} → statement M
-fill-layer-marks-spec =
+pub fill_layer_marks_spec : {M : Type 1} → statement M
+fill_layer_marks_spec =
     tie.close
     (tie.spec
     invariant-loop
@@ -53,5 +53,5 @@ fill-layer-marks-spec =
     (λ c. omega arith)
     (λ c. omega arith)
     loop-again
-    (λ c. c.before.loop.invariant.1.0)
+    (λ c. c.loop-block.invariant.1.0)
     returns)

@@ -20,25 +20,25 @@ case_in c = case_of c.args.g c.args.columns.now c.args.rows.now c.args.slots.now
 room : (c : tie.Start) → blocks_of c.args.g ≤ 512
 room c = omega (arith, c.requires.formed.judged.counted.blocks_most)
 
-table-on-requires : tie.Need-table-on-requires
+table-on-requires : tie.Need-table_on-requires
 table-on-requires c κs =
     let s = c.before.before.before.before in
-    let long : length c.before.before.fill-layer-marks.new.1.1.0 ≡ 512 = c.before.before.fill-layer-marks.auto.1.1.0 in
+    let long : length c.fill_layer_marks.new.marks ≡ 512 = c.fill_layer_marks.auto.marks in
     record { formed = s.requires.formed; watered = s.requires.watered; balanced = s.requires.balanced; reach = omega (arith, room s, long) }
 
 returns : tie.Need-returns
 returns c =
     let s = c.before.before.before.before.before in
     c.table_on.ensures
-    ∙ ap (λ (marks : List ℤ). eighteen_of (case_in s) (marked_of marks)) c.before.before.before.fill-layer-marks.ensures
+    ∙ ap (λ (marks : List ℤ). eighteen_of (case_in s) (marked_of marks)) c.fill_layer_marks.ensures
     ∙ layer_marked (case_in s) s.requires.formed.judged.counted s.args.layer (replicate 512 (pos 0)) (room s)
 
-pub layer-on-spec : {M : Type 1} → statement M
-layer-on-spec =
+pub layer_on_spec : {M : Type 1} → statement M
+layer_on_spec =
     tie.close
     (tie.spec
     (λ c. search rules)
-    (λ c κs. (c.before.requires.formed.judged.counted, room c.before))
+    (λ c κs. (c.requires.formed.judged.counted, room c.before))
     (λ c. search rules)
     table-on-requires
     returns)

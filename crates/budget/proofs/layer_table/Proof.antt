@@ -21,35 +21,35 @@ use Rattle.budget.proofs.layer_table.Tie as tie
 abbrev case_in : tie.Start → Case
 case_in c = case_of c.args.g c.args.columns.now c.args.rows.now c.args.slots.now
 
-returns : tie.Need-returns
+returns : tie.Need-returns-then-refusal-ne0
 unfolding layer_answer
 returns c =
     c.refused.ensures
-    ∙ tabled_stays (checks_of (case_in c.before.before.before.before)) (well_checks (case_in c.before.before.before.before)) c.before.before.before.check-slices.result (eighteen_of (case_in c.before.before.before.before) (layer_zone c.before.before.before.before.args.g c.before.before.before.before.args.layer)) c.before.before.before.check-slices.ensures c.before.if1.true
+    ∙ tabled_stays (checks_of (case_in c.before.before.before.before)) (well_checks (case_in c.before.before.before.before)) c.check_slices-refusal.result (eighteen_of (case_in c.before.before.before.before) (layer_zone c.args.g c.args.layer)) c.check_slices-refusal.ensures c.if-refusal-ne0.true
 
-formed : (c : tie.Else1) → WellFormed (case_in c.before.before.before)
-formed c = checked_stands (case_in c.before.before.before) (rw (← c.before.before.check-slices.ensures) c.if1.false)
+formed : (c : tie.Else-refusal-ne0) → WellFormed (case_in c.before.before.before)
+formed c = checked_stands (case_in c.before.before.before) (rw (← c.check_slices-refusal.ensures) c.if-refusal-ne0.false)
 
-room : (c : tie.Else1) → blocks_of c.before.before.before.args.g ≤ 512
+room : (c : tie.Else-refusal-ne0) → blocks_of c.args.g ≤ 512
 room c = omega (arith, (formed c).judged.counted.blocks_most)
 
 account-requires : tie.Need-account-requires
 account-requires c κs =
-    let long : length c.before.before.fill-layer-marks.new.1.1.0 ≡ 512 = c.before.before.fill-layer-marks.auto.1.1.0 in
+    let long : length c.fill_layer_marks.new.marks ≡ 512 = c.fill_layer_marks.auto.marks in
     (formed c.before.before.before.before, omega (arith, room c.before.before.before.before, long))
 
-returns-2 : tie.Need-returns-2
+returns-2 : tie.Need-returns
 unfolding layer_answer
 returns-2 c =
     let s = c.before.before.before.before.before.before.before.before in
     let k = case_in s in
     c.account.ensures
-    ∙ ap (λ (marks : List ℤ). tabled (first_refusal (well_checks k)) (eighteen_of k (marked_of marks))) c.before.before.before.fill-layer-marks.ensures
+    ∙ ap (λ (marks : List ℤ). tabled (first_refusal (well_checks k)) (eighteen_of k (marked_of marks))) c.fill_layer_marks.ensures
     ∙ ap (tabled (first_refusal (well_checks k))) (layer_marked k (formed c.before.before.before.before.before).judged.counted s.args.layer (replicate 512 (pos 0)) (room c.before.before.before.before.before))
-    ∙ tabled_goes_on (checks_of k) (well_checks k) c.before.before.before.before.before.before.before.check-slices.result (eighteen_of k (layer_zone s.args.g s.args.layer)) c.before.before.before.before.before.before.before.check-slices.ensures c.before.before.before.before.before.if1.false
+    ∙ tabled_goes_on (checks_of k) (well_checks k) c.check_slices-refusal.result (eighteen_of k (layer_zone s.args.g s.args.layer)) c.check_slices-refusal.ensures c.if-refusal-ne0.false
 
-pub layer-table-spec : {M : Type 1} → statement M
-layer-table-spec =
+pub layer_table_spec : {M : Type 1} → statement M
+layer_table_spec =
     tie.close
     (tie.spec
     (λ c κs. search rules)

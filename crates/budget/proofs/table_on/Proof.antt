@@ -10,8 +10,8 @@ use Rattle.budget.proofs.table_on.Tie as tie
 
 returns : tie.Need-returns
 returns c =
-    let s = c.before.before.args in
-    c.flat.ensures ∙ ap flat_of c.before.table.ensures ∙ flat_table (case_of s.g s.columns.now s.rows.now s.slots.now) (marked_of s.marks.now)
+    let s = c.args in
+    c.flat.ensures ∙ ap flat_of c.table.ensures ∙ flat_table (case_of s.g s.columns.now s.rows.now s.slots.now) (marked_of s.marks.now)
 
-pub table-on-spec : {M : Type 1} → statement M
-table-on-spec = tie.close (tie.spec (λ c κs. search rules) (λ c κs. search rules) returns)
+pub table_on_spec : {M : Type 1} → statement M
+table_on_spec = tie.close (tie.spec (λ c κs. search rules) (λ c κs. search rules) returns)

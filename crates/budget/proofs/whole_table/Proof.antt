@@ -15,25 +15,25 @@ use Rattle.budget.proofs.whole_table.Tie as tie
 abbrev case_in : tie.Start → Case
 case_in c = case_of c.args.g c.args.columns.now c.args.rows.now c.args.slots.now
 
-returns : tie.Need-returns
+returns : tie.Need-returns-then-refusal-ne0
 unfolding whole_answer
 returns c =
     c.refused.ensures
-    ∙ tabled_stays (checks_of (case_in c.before.before.before.before)) (well_checks (case_in c.before.before.before.before)) c.before.before.before.check-slices.result (eighteen_of (case_in c.before.before.before.before) everywhere) c.before.before.before.check-slices.ensures c.before.if1.true
+    ∙ tabled_stays (checks_of (case_in c.before.before.before.before)) (well_checks (case_in c.before.before.before.before)) c.check_slices-refusal.result (eighteen_of (case_in c.before.before.before.before) everywhere) c.check_slices-refusal.ensures c.if-refusal-ne0.true
 
-formed : (c : tie.Else1) → WellFormed (case_in c.before.before.before)
-formed c = checked_stands (case_in c.before.before.before) (rw (← c.before.before.check-slices.ensures) c.if1.false)
+formed : (c : tie.Else-refusal-ne0) → WellFormed (case_in c.before.before.before)
+formed c = checked_stands (case_in c.before.before.before) (rw (← c.check_slices-refusal.ensures) c.if-refusal-ne0.false)
 
-returns-2 : tie.Need-returns-2
+returns-2 : tie.Need-returns
 unfolding whole_answer
 returns-2 c =
     let k = case_in c.before.before.before.before.before in
     c.account.ensures
     ∙ ap (tabled (first_refusal (well_checks k))) (whole_marked k (formed c.before.before).judged.counted)
-    ∙ tabled_goes_on (checks_of (case_in c.before.before.before.before.before)) (well_checks k) c.before.before.before.before.check-slices.result (eighteen_of k everywhere) c.before.before.before.before.check-slices.ensures c.before.before.if1.false
+    ∙ tabled_goes_on (checks_of (case_in c.before.before.before.before.before)) (well_checks k) c.check_slices-refusal.result (eighteen_of k everywhere) c.check_slices-refusal.ensures c.if-refusal-ne0.false
 
-pub whole-table-spec : {M : Type 1} → statement M
-whole-table-spec =
+pub whole_table_spec : {M : Type 1} → statement M
+whole_table_spec =
     tie.close
     (tie.spec
     (λ c κs. search rules)

@@ -23,31 +23,31 @@ abbrev linesIn : tie.Start → List ℤ
 linesIn c = eighteen_of (case_in c) (marked_of c.args.marks.now)
 
 -- what the call tells of the marks
-held : (c : tie.After-all-within) → marks_hold c.before.before.args.g c.before.before.args.marks.now ≡ c.all-within.result
-held c = sym (c.all-within.ensures ∙ ap (all_within (between (pos 0) (pos 1)) c.before.before.args.marks.now) c.before.blocks2.ensures)
+held : (c : tie.After-all_within) → marks_hold c.args.g c.args.marks.now ≡ c.all_within.result
+held c = sym (c.all_within.ensures ∙ ap (all_within (between (pos 0) (pos 1)) c.args.marks.now) c.blocks-2.ensures)
 
-returns : tie.Need-returns
+returns : tie.Need-returns-then-not-all_within
 unfolding zone_of_case
 returns c =
     let s = c.before.before.before.before in
     let hold = marks_hold s.args.g s.args.marks.now in
-    let told : refusal 11 0 ≡ first_refusal (unless 11 hold ∷ []) = ap (unless 11) (sym (held c.before.before ∙ not-true c.before.before.all-within.result c.before.if1.true)) ∙ unless_alone 11 hold (omega arith) in
+    let told : refusal 11 0 ≡ first_refusal (unless 11 hold ∷ []) = ap (unless 11) (sym (held c.before.before ∙ not-true c.all_within.result c.if-not-all_within.true-raw)) ∙ unless_alone 11 hold (omega arith) in
     c.refused.ensures ∙ tabled_stays (unless 11 hold ∷ []) (well_checks (case_in s)) (refusal 11 0) (linesIn s) told (omega arith)
 
-returns-2 : tie.Need-returns-2
+returns-2 : tie.Need-returns
 unfolding zone_of_case
 returns-2 c =
     let s = c.before.before.before.before in
     let hold = marks_hold s.args.g s.args.marks.now in
-    let told : none ≡ first_refusal (unless 11 hold ∷ []) = ap (unless 11) (sym (held c.before.before ∙ not-false c.before.before.all-within.result c.before.if1.false)) ∙ unless_alone 11 hold (omega arith) in
+    let told : none ≡ first_refusal (unless 11 hold ∷ []) = ap (unless 11) (sym (held c.before.before ∙ not-false c.all_within.result c.if-not-all_within.false-raw)) ∙ unless_alone 11 hold (omega arith) in
     c.account.ensures ∙ tabled_goes_on (unless 11 hold ∷ []) (well_checks (case_in s)) none (linesIn s) told (omega arith)
 
-pub zone-of-case-spec : {M : Type 1} → statement M
-zone-of-case-spec =
+pub zone_of_case_spec : {M : Type 1} → statement M
+zone_of_case_spec =
     tie.close
     (tie.spec
     (λ c κs. c.requires.0.judged.counted)
-    (λ c κs. omega (arith, c.blocks2.ensures, c.before.requires.1))
+    (λ c κs. omega (arith, c.blocks-2.ensures, c.requires.1))
     (λ c κs. search rules)
     returns
     (λ c κs. search rules)

@@ -27,32 +27,32 @@ abbrev reachIn : tie.Start → Bool
 reachIn c = marks_reach c.args.g c.args.marks.now
 
 -- 7 of the marks is judged where the counts are in range
-told : (c : tie.After-check-lent) → c.check-lent.result ≡ checked_lent (case_in c.before.before) (reachIn c.before.before)
+told : (c : tie.After-check_lent-refusal) → c.check_lent-refusal.result ≡ checked_lent (case_in c.before.before) (reachIn c.before.before)
 told c =
     let s = c.before.before in
-    c.check-lent.ensures
-    ∙ ap (checked_lent (case_in s)) c.before.reaches-over.ensures
+    c.check_lent-refusal.ensures
+    ∙ ap (checked_lent (case_in s)) c.reaches_over-reaches.ensures
     ∙ lent_reached (case_in s) (λ b. b) 1 (length s.args.marks.now) (blocks_of s.args.g) (omega arith)
 
-returns : tie.Need-returns
+returns : tie.Need-returns-then-refusal-ne0
 unfolding zone_answer
 returns c =
     let s = c.before.before.before.before.before in
     let h = c.before.before.before in
-    c.refused.ensures ∙ tabled_stays (lent_checks_of (case_in s) (reachIn s)) (table_checks (case_in s) s.args.marks.now) h.check-lent.result (linesIn s) (told h) c.before.if1.true
+    c.refused.ensures ∙ tabled_stays (lent_checks_of (case_in s) (reachIn s)) (table_checks (case_in s) s.args.marks.now) h.check_lent-refusal.result (linesIn s) (told h) c.if-refusal-ne0.true
 
-zone-of-case-requires : tie.Need-zone-of-case-requires
+zone-of-case-requires : tie.Need-zone_of_case-requires
 zone-of-case-requires c κs =
     let s = c.before.before.before.before in
-    let stands = lent_stands (case_in s) (reachIn s) (rw (← told c.before.before) c.if1.false) in
+    let stands = lent_stands (case_in s) (reachIn s) (rw (← told c.before.before) c.if-refusal-ne0.false) in
     (stands.0, leb→le (blocks_of s.args.g) (length s.args.marks.now) stands.1)
 
-returns-2 : tie.Need-returns-2
+returns-2 : tie.Need-returns
 unfolding zone_answer zone_of_case
 returns-2 c =
     let s = c.before.before.before.before.before in
     let h = c.before.before.before in
-    c.zone-of-case.ensures ∙ tabled_goes_on (lent_checks_of (case_in s) (reachIn s)) (table_checks (case_in s) s.args.marks.now) h.check-lent.result (linesIn s) (told h) c.before.if1.false
+    c.zone_of_case.ensures ∙ tabled_goes_on (lent_checks_of (case_in s) (reachIn s)) (table_checks (case_in s) s.args.marks.now) h.check_lent-refusal.result (linesIn s) (told h) c.if-refusal-ne0.false
 
-pub zone-table-spec : {M : Type 1} → statement M
-zone-table-spec = tie.close (tie.spec (λ c κs. search rules) (λ c κs. search rules) (λ c κs. search rules) returns zone-of-case-requires returns-2)
+pub zone_table_spec : {M : Type 1} → statement M
+zone_table_spec = tie.close (tie.spec (λ c κs. search rules) (λ c κs. search rules) (λ c κs. search rules) returns zone-of-case-requires returns-2)

@@ -7,7 +7,7 @@ use Rattle.budget.proofs.table.add.Tie as tie
 
 returns : tie.Need-returns
 unfolding add_table
-returns c = λ k. c.before.before.before.add-rows.ensures k ∷ c.add-rows2.ensures k ∷ []
+returns c = λ k. c.add_rows.ensures k ∷ c.add_rows-2.ensures k ∷ []
 
 pub add_spec : {M : Type 1} → statement M
 add_spec =
@@ -15,8 +15,8 @@ add_spec =
     (tie.spec
     (λ c. search rules)
     (λ c. search rules)
-    (λ c κs. (c.before.before.requires.0 0, c.before.before.requires.1 0))
+    (λ c κs. (c.requires.0 0, c.requires.1 0))
     (λ c. search rules)
     (λ c. search rules)
-    (λ c κs. (c.before.before.before.before.before.requires.0 1, c.before.before.before.before.before.requires.1 1))
+    (λ c κs. (c.requires.0 1, c.requires.1 1))
     returns)

@@ -14,39 +14,39 @@ use Rattle.budget.proofs.TableLaws.{add_at, add_length, laid_over, lay_first}
 use Rattle.budget.proofs.table.add_rows.Statement.{statement}
 use Rattle.budget.proofs.table.add_rows.Tie as tie
 
-abbrev invariant-loop : tie.invariant-loop
+abbrev invariant-loop : tie.invariant-loop-line
 invariant-loop a b sums₀ line₀ sums line =
     (line ≤ 9) × ((length a ≡ 9) × ((length b ≡ 9) × ((length sums ≡ 9) × (sums ≡ paste a 0 (add_row a b) line))))
 
-abbrev decreases-loop : tie.decreases-loop
+abbrev decreases-loop : tie.decreases-loop-line
 decreases-loop a b sums₀ line₀ sums line = 9 - line
 
-loop-holds : tie.Need-loop-init invariant-loop decreases-loop
-loop-holds c = (omega arith, (search rules, (search rules, (search rules, paste-zero c.args.t1 0 (add_row c.args.t1 c.args.t2)))))
+loop-holds : tie.Need-loop-line-init invariant-loop decreases-loop
+loop-holds c = (omega arith, (search rules, (search rules, (search rules, paste-zero c.args.a 0 (add_row c.args.a c.args.b)))))
 
 -- the sum of a line
-sum_told : (c : tie.After-sums2 invariant-loop decreases-loop) → Bounds (to_z w64 (of_z w64 (get_or c.before.before.before.before.args.t1 c.before.before.before.loop.line (pos 0))) +ℤ to_z w64 (of_z w64 (get_or c.before.before.before.before.args.t2 c.before.before.before.loop.line (pos 0))))
-sum_told c = search (ranges, leaf (c.before.before.before.before.requires.0 c.before.before.before.loop.line), leaf (c.before.before.before.before.requires.1 c.before.before.before.loop.line)) depth 20
+sum_told : (c : tie.After-sums-in-loop-line-1 invariant-loop decreases-loop) → Bounds (to_z w64 (of_z w64 (get_or c.args.a c.loop-line.line (pos 0))) +ℤ to_z w64 (of_z w64 (get_or c.args.b c.loop-line.line (pos 0))))
+sum_told c = search (ranges, leaf (c.requires.0 c.loop-line.line), leaf (c.requires.1 c.loop-line.line)) depth 20
 
-add-sums : tie.Need-overflow-add-sums invariant-loop decreases-loop
+add-sums : tie.Need-overflow_add-sums invariant-loop decreases-loop
 unfolding sum_told
 add-sums c = fits (sum_told c) tt
 
-laid : (c : tie.After-sums2 invariant-loop decreases-loop) → set c.before.before.before.loop.sums c.before.before.before.loop.line (to_z w64 (of_z w64 (to_z w64 (of_z w64 (get_or c.before.before.before.before.args.t1 c.before.before.before.loop.line (pos 0))) +ℤ to_z w64 (of_z w64 (get_or c.before.before.before.before.args.t2 c.before.before.before.loop.line (pos 0))))))
-    ≡ paste c.before.before.before.before.args.t1 0 (add_row c.before.before.before.before.args.t1 c.before.before.before.before.args.t2) (c.before.before.before.loop.line + 1)
+laid : (c : tie.After-sums-in-loop-line-1 invariant-loop decreases-loop) → set c.loop-line.sums c.loop-line.line (to_z w64 (of_z w64 (to_z w64 (of_z w64 (get_or c.args.a c.loop-line.line (pos 0))) +ℤ to_z w64 (of_z w64 (get_or c.args.b c.loop-line.line (pos 0))))))
+    ≡ paste c.args.a 0 (add_row c.args.a c.args.b) (c.loop-line.line + 1)
 unfolding sum_told
 laid c =
-    let l = c.before.before.before.loop in
-    let a = c.before.before.before.before.args.t1 in
-    let b = c.before.before.before.before.args.t2 in
+    let l = c.loop-line in
+    let a = c.args.a in
+    let b = c.args.b in
     let same : length a ≡ length b = l.invariant.1.0 ∙ sym l.invariant.1.1.0 in
     let inside : l.line < length a = omega arith in
     let within : l.line < length (add_row a b) = omega (arith, add_length a b same) in
     lay_first a l.sums (add_row a b) l.line _ l.invariant.1.1.1.1 inside within (exact (search (ranges, sum_told c) depth 20) ∙ sym (add_at a b l.line same inside))
 
-loop-again : tie.Need-loop-preserved invariant-loop decreases-loop
+loop-again : tie.Need-loop-line-preserved invariant-loop decreases-loop
 loop-again c =
-    let l = c.before.before.before.loop in (
+    let l = c.loop-line in (
       omega arith,
       (
         l.invariant.1.0,
@@ -62,13 +62,13 @@ loop-again c =
 
 returns : tie.Need-returns invariant-loop decreases-loop
 returns c =
-    let l = c.before.loop in
+    let l = c.loop-line in
     let e : l.line ≡ 9 = omega arith in
-    l.invariant.1.1.1.1 ∙ ap (λ (n : ℕ). paste c.before.before.args.t1 0 (add_row c.before.before.args.t1 c.before.before.args.t2) n) e
-    ∙ laid_over c.before.before.args.t1 (add_row c.before.before.args.t1 c.before.before.args.t2) 9 l.invariant.1.0 (add_length c.before.before.args.t1 c.before.before.args.t2 (l.invariant.1.0 ∙ sym l.invariant.1.1.0) ∙ l.invariant.1.0)
+    l.invariant.1.1.1.1 ∙ ap (λ (n : ℕ). paste c.args.a 0 (add_row c.args.a c.args.b) n) e
+    ∙ laid_over c.args.a (add_row c.args.a c.args.b) 9 l.invariant.1.0 (add_length c.args.a c.args.b (l.invariant.1.0 ∙ sym l.invariant.1.1.0) ∙ l.invariant.1.0)
 
-pub add-rows-spec : {M : Type 1} → statement M
-add-rows-spec =
+pub add_rows_spec : {M : Type 1} → statement M
+add_rows_spec =
     tie.close
     (tie.spec
     invariant-loop

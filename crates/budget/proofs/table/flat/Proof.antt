@@ -12,8 +12,8 @@ use Rattle.budget.proofs.table.flat.Tie as tie
 returns : tie.Need-returns
 unfolding flat_of
 returns c =
-    let t = c.before.before.before.before.args.t1 in
-    both_rows (replicate 18 (pos 0)) (get_or t 0 []) (get_or t 1 []) c.before.before.put.result c.put2.result refl c.before.before.put.ensures.1 c.put2.ensures.1 c.before.before.put.ensures.0 c.put2.ensures.0
+    let t = c.args.rows in
+    both_rows (replicate 18 (pos 0)) (get_or t 0 []) (get_or t 1 []) c.put-fresh.result c.put.result refl c.put-fresh.ensures.1 c.put.ensures.1 c.put-fresh.ensures.0 c.put.ensures.0
 
-pub flat-spec : {M : Type 1} → statement M
-flat-spec = tie.close (tie.spec (λ c. search rules) (λ c κs. search rules) (λ c. search rules) (λ c κs. search rules) returns)
+pub flat_spec : {M : Type 1} → statement M
+flat_spec = tie.close (tie.spec (λ c. search rules) (λ c κs. search rules) (λ c. search rules) (λ c κs. search rules) returns)

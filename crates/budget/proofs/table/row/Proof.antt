@@ -8,8 +8,8 @@ use Rattle.budget.proofs.table.row.Tie as tie
 returns : tie.Need-returns
 unfolding row_of
 returns c =
-    let l = c.before.args.lines in
-    let t = c.struct_told.given in
+    let l = c.args.lines in
+    let t = c.struct_told-1.given in
     λ k.
     read_back l.storage t.0.1 k
     ∷ read_back l.edge_in t.1.0.1 k
@@ -22,5 +22,5 @@ returns c =
     ∷ read_back l.error t.1.1.1.1.1.1.1.1.0.1 k
     ∷ []
 
-pub row-spec : {M : Type 1} → statement M
-row-spec = tie.close (tie.spec returns)
+pub row_spec : {M : Type 1} → statement M
+row_spec = tie.close (tie.spec returns)
