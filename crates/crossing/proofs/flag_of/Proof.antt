@@ -5,11 +5,11 @@ use Rattle.whole.proofs.RangeLaws.{b_pos, fits, lt_no, negative_any, unsign_ok}
 use Rattle.crossing.proofs.flag_of.Statement.{statement}
 use Rattle.crossing.proofs.flag_of.Tie as tie
 
-returns : tie.Need-returns
-returns c = rw (negative_any c.before.ranges.z c.if1.true) refl
+returns : tie.Need-returns-then-z-lt0
+returns c = rw (negative_any c.ranges.z c.if-z-lt0.true) refl
 
-returns-2 : tie.Need-returns-2
-returns-2 c = rw (negative_any c.before.ranges.z c.if1.false, to_z-of_z c.before.ranges.z) refl
+returns-2 : tie.Need-returns-else-z-lt0
+returns-2 c = rw (negative_any c.ranges.z c.if-z-lt0.false, to_z-of_z c.ranges.z) refl
 
-pub flag-of-spec : {M : Type 1} → statement M
-flag-of-spec = tie.close (tie.spec (λ c. unsign_ok (lt_no c.before.ranges.z (fits (b_pos 0) tt) c.if1.false) c.before.ranges.z) returns returns-2)
+pub flag_of_spec : {M : Type 1} → statement M
+flag_of_spec = tie.close (tie.spec (λ c. unsign_ok (lt_no c.ranges.z (fits (b_pos 0) tt) c.if-z-lt0.false) c.ranges.z) returns returns-2)

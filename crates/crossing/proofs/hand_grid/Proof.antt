@@ -6,17 +6,17 @@ use Rattle.whole.specs.Lent.{over}
 use Rattle.crossing.proofs.hand_grid.Statement.{statement}
 use Rattle.crossing.proofs.hand_grid.Tie as tie
 
-returns : tie.Need-returns
-returns c = rw (eq-eqb c.before.before.before.before.before.before.before.args.refusal.number 0 c.before.before.before.before.before.if1.true) (refl, (refl, c.before.copy-front.ensures ∙ ap (λ v. over v c.before.before.before.before.before.before.before.args.out.now) c.before.before.before.before.numbers-of-grid.ensures))
+returns : tie.Need-returns-then-refusal-eq0
+returns c = rw (eq-eqb c.args.refusal.number 0 c.if-refusal-eq0.true) (refl, (refl, c.copy_front.ensures ∙ ap (λ v. over v c.args.out.now) c.numbers_of_grid-numbers.ensures))
 
-returns-2 : tie.Need-returns-2
-returns-2 c = rw (ne_eqb c.before.before.args.refusal.number 0 c.if1.false) (refl, (refl, refl))
+returns-2 : tie.Need-returns-else-refusal-eq0
+returns-2 c = rw (ne_eqb c.args.refusal.number 0 c.if-refusal-eq0.false) (refl, (refl, refl))
 
-pub hand-grid-spec : {M : Type 1} → statement M
-hand-grid-spec =
+pub hand_grid_spec : {M : Type 1} → statement M
+hand_grid_spec =
     tie.close
     (tie.spec
-    (λ c κs. (c.before.before.requires.0 c.if1.true, c.before.before.requires.1.0 c.if1.true))
+    (λ c κs. (c.requires.0 c.if-refusal-eq0.true, c.requires.1.0 c.if-refusal-eq0.true))
     (λ c. search rules)
     (λ c κs. search rules)
     (λ c. search rules)

@@ -10,13 +10,13 @@ use Rattle.crossing.proofs.numbers_of_verdict.Tie as tie
 
 returns : tie.Need-returns
 returns c =
-    let v = c.before.before.before.before.args.v in
-    let small = c.before.before.before.before.requires in
+    let v = c.args.v in
+    let small = c.requires in
     λ i. to_z_pos w64 v.code (omega (arith, small.code)) i
     ∷ to_z_pos w64 v.block (omega (arith, small.block)) i
     ∷ to_z_pos w64 v.count (omega (arith, small.count)) i
-    ∷ read_back v.largest c.struct_told.given.1.1.1.0.1 i
+    ∷ read_back v.largest c.struct_told-1.given.1.1.1.0.1 i
     ∷ []
 
-pub numbers-of-verdict-spec : {M : Type 1} → statement M
-numbers-of-verdict-spec = tie.close (tie.spec (λ c. search rules) (λ c. search rules) (λ c. search rules) returns)
+pub numbers_of_verdict_spec : {M : Type 1} → statement M
+numbers_of_verdict_spec = tie.close (tie.spec (λ c. search rules) (λ c. search rules) (λ c. search rules) returns)

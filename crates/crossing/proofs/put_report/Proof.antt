@@ -29,8 +29,8 @@ module _ (r : Report) (out : List Float) (h : 5 ≤ length out) where
   in-third : (k : ℕ) → k < 5 → k < length (set second 2 r.interface)
   in-third k l = still second 2 r.interface k (in-second k l)
 
-pub put-report-spec : {M : Type 1} → statement M
-put-report-spec =
+pub put_report_spec : {M : Type 1} → statement M
+put_report_spec =
     tie.close
     (tie.spec
     (λ c. search rules)

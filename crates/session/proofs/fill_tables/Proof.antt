@@ -13,23 +13,23 @@ use Rattle.session.proofs.SessionLaws.{layers_length}
 use Rattle.session.proofs.fill_tables.Statement.{statement}
 use Rattle.session.proofs.fill_tables.Tie as tie
 
-copy-front-requires : tie.Need-copy-front-requires
+copy-front-requires : tie.Need-copy_front-requires
 copy-front-requires c κs =
-    let long : length c.before.before.before.whole-on.result ≡ 18 = search rules in
+    let long : length c.whole_on-lines.result ≡ 18 = search rules in
     simp (length-take, length-drop) (omega arith)
 
 returns : tie.Need-returns
 unfolding tables_of
 returns c =
-    let s = c.before.before.before.before.before.before.before.before.before in
+    let s = c in
     let a = s.args in
     let k = case_of a.g a.columns.now a.rows.now a.slots.now in
     let done = layers_of k a.g.layers in
-    over_rest done c.before.before.before.before.before.whole-on.result a.out.now (layers_length k a.g.layers) c.before.before.before.before.before.before.before.fill-layers.ensures c.before.copy-front.ensures
-    ∙ (λ i. over (done ++ (c.before.before.before.before.before.whole-on.ensures ∙ sym (whole_given k s.requires.1.0)) i) a.out.now)
+    over_rest done c.whole_on-lines.result a.out.now (layers_length k a.g.layers) c.fill_layers.ensures c.copy_front.ensures
+    ∙ (λ i. over (done ++ (c.whole_on-lines.ensures ∙ sym (whole_given k s.requires.1.0)) i) a.out.now)
 
-pub fill-tables-spec : {M : Type 1} → statement M
-fill-tables-spec =
+pub fill_tables_spec : {M : Type 1} → statement M
+fill_tables_spec =
     tie.close
     (tie.spec
     (λ c κs. search rules)

@@ -31,28 +31,28 @@ room c = omega (arith, (formed c).judged.counted.blocks_most)
 ready : (c : tie.Start) → Slotted c.args.g c.args.slots.now
 ready c = slotted (case_in c) (formed c).judged
 
-watered : (c : tie.After-fill-waters) → Watered c.before.before.args.g c.before.before.args.slots.now c.fill-waters.new.1.1.0
-watered c = filled_watered _ _ _ (ready c.before.before) c.fill-waters.ensures (le_refl 1024)
+watered : (c : tie.After-fill_waters) → Watered c.args.g c.args.slots.now c.fill_waters.new.row
+watered c = filled_watered _ _ _ (ready c.before.before) c.fill_waters.ensures (le_refl 1024)
 
-abbrev start : tie.After-fill-balances → tie.Start
+abbrev start : tie.After-fill_balances → tie.Start
 start c = c.before.before.before.before.before.before
 
-balanced : (c : tie.After-fill-balances) → Row (blocks_of (start c).args.g) (balances_of (case_in (start c))) c.fill-balances.new.1.1.1.1.1.0
-balanced c = filled_balanced (case_in (start c)) _ (formed (start c)).judged.counted c.fill-balances.ensures (le_refl 1024)
+balanced : (c : tie.After-fill_balances) → Row (blocks_of (start c).args.g) (balances_of (case_in (start c))) c.fill_balances.new.row
+balanced c = filled_balanced (case_in (start c)) _ (formed (start c)).judged.counted c.fill_balances.ensures (le_refl 1024)
 
 -- the verdict by the rows is that on the case
-judged : (c : tie.After-verdict-of-rows) → c.verdict-of-rows.result ≡ verdict_of (case_in (start c.before.before.before.before))
+judged : (c : tie.After-verdict_of_rows-verdict) → c.verdict_of_rows-verdict.result ≡ verdict_of (case_in (start c.before.before.before.before))
 unfolding verdict_of
 judged c =
     let h = c.before.before.before.before in
     let k = case_in (start h) in
-    c.verdict-of-rows.ensures
-    ∙ verdict_same k.grid k.slots (pair_of h.fill-balances.new.1.1.1.1.1.0) (balances_of k) (balanced h).each
+    c.verdict_of_rows-verdict.ensures
+    ∙ verdict_same k.grid k.slots (pair_of h.fill_balances.new.row) (balances_of k) (balanced h).each
 
-fill-balances-requires : tie.Need-fill-balances-requires
+fill-balances-requires : tie.Need-fill_balances-requires
 fill-balances-requires c κs = (formed c.before.before.before.before.before, (watered c.before.before.before, room c.before.before.before.before.before))
 
-verdict-of-rows-requires : tie.Need-verdict-of-rows-requires
+verdict-of-rows-requires : tie.Need-verdict_of_rows-verdict-requires
 verdict-of-rows-requires c κs =
     let h = c.before.before.before in
     (ready (start h), (watered h.before.before.before.before, row_bounded (case_in (start h)) (formed (start h)) _ (balanced h)))
@@ -63,7 +63,7 @@ ruled-requires c κs =
     let f = h.before.before.before.before in
     let s = start f in (
       record { formed = formed s; watered = watered f.before.before.before.before; balanced = balanced f },
-      λ e. tables_wet (case_in s) s.pre (sym (ap (λ v. first_line_only v.code) (judged h)) ∙ e),
+      λ e. tables_wet (case_in s) s.requires (sym (ap (λ v. first_line_only v.code) (judged h)) ∙ e),
     )
 
 returns : tie.Need-returns
@@ -71,8 +71,8 @@ returns c =
     let h = c.before.before.before in
     c.ruled.ensures ∙ ap (ruling (case_in (start h.before.before.before.before))) (judged h)
 
-pub session-of-case-spec : {M : Type 1} → statement M
-session-of-case-spec =
+pub session_of_case_spec : {M : Type 1} → statement M
+session_of_case_spec =
     tie.close
     (tie.spec
     (λ c. search rules)

@@ -11,24 +11,24 @@ use Rattle.session.proofs.session_of_file.Tie as tie
 abbrev readIn : tie.Start → Read
 readIn c = reading_of c.args.file.now lent_widths lent_widths lent_slots
 
-returns : tie.Need-returns
-returns c = c.refused.ensures ∙ file_long c.before.before.before.args.file.now c.before.if1.true
+returns : tie.Need-returns-then-file-gt-MOST_FILE
+returns c = c.refused.ensures ∙ file_long c.args.file.now c.if-file-gt-MOST_FILE.true
 
-returns-2 : tie.Need-returns-2
+returns-2 : tie.Need-returns-then-refusal-ne0
 returns-2 c =
-    c.refused2.ensures
-    ∙ read_refused (readIn c.before.before.before.before.before.before.before.before.before.before.before.before.before) c.before.before.before.before.before.before.before.read-case.result c.before.before.before.before.before.before.before.read-case.ensures.0 c.before.if2.true
-    ∙ sym (file_read c.before.before.before.before.before.before.before.before.before.before.before.before.before.args.file.now c.before.before.before.before.before.before.before.before.before.before.before.if1.false)
+    c.refused-then-refusal-ne0.ensures
+    ∙ read_refused (readIn c.before.before.before.before.before.before.before.before.before.before.before.before.before) c.read_case-answer.result c.read_case-answer.ensures.0 c.if-refusal-ne0.true
+    ∙ sym (file_read c.args.file.now c.if-file-gt-MOST_FILE.false)
 
-returns-3 : tie.Need-returns-3
+returns-3 : tie.Need-returns
 returns-3 c =
-    let told = c.before.before.before.before.before.before.before.before.before.before.before.read-case.ensures in
-    c.session-of-slices.ensures
-    ∙ read_unrefused (readIn c.before.before.before.before.before.before.before.before.before.before.before.before.before.before.before.before.before) c.before.before.before.before.before.before.before.before.before.before.before.read-case.result c.before.before.before.before.before.before.before.before.before.before.before.read-case.new.1.0 c.before.before.before.before.before.before.before.before.before.before.before.read-case.new.1.1.0 c.before.before.before.before.before.before.before.before.before.before.before.read-case.new.1.1.1.0 told.0 told.1.0 told.1.1.0 told.1.1.1 c.before.before.before.before.before.if2.false
-    ∙ sym (file_read c.before.before.before.before.before.before.before.before.before.before.before.before.before.before.before.before.before.args.file.now c.before.before.before.before.before.before.before.before.before.before.before.before.before.before.before.if1.false)
+    let told = c.read_case-answer.ensures in
+    c.session_of_slices.ensures
+    ∙ read_unrefused (readIn c.before.before.before.before.before.before.before.before.before.before.before.before.before.before.before.before.before) c.read_case-answer.result c.read_case-answer.new.columns c.read_case-answer.new.rows c.read_case-answer.new.slots told.0 told.1.0 told.1.1.0 told.1.1.1 c.if-refusal-ne0.false
+    ∙ sym (file_read c.args.file.now c.if-file-gt-MOST_FILE.false)
 
-pub session-of-file-spec : {M : Type 1} → statement M
-session-of-file-spec =
+pub session_of_file_spec : {M : Type 1} → statement M
+session_of_file_spec =
     tie.close
     (tie.spec
     (λ c κs. search rules)

@@ -7,15 +7,15 @@ use Rattle.crossing.proofs.CrossingLaws.{check_long, check_short}
 use Rattle.crossing.proofs.handed.check_handed.Statement.{statement}
 use Rattle.crossing.proofs.handed.check_handed.Tie as tie
 
-returns : tie.Need-returns
-returns c = let a = c.before.args in sym (check_short a.«record».now a.columns.now a.rows.now a.slots.now a.reaches c.if1.true)
+returns : tie.Need-returns-then-record-lt-RECORD_NUMBERS
+returns c = let a = c.args in sym (check_short a.«record».now a.columns.now a.rows.now a.slots.now a.reaches c.if-record-lt-RECORD_NUMBERS.true)
 
-returns-2 : tie.Need-returns-2
+returns-2 : tie.Need-returns
 returns-2 c =
-    let a = c.before.before.before.args in
-    c.check-lent.ensures
-    ∙ ap (λ g. checked_lent (case_of g a.columns.now a.rows.now a.slots.now) a.reaches) c.before.grid-of.ensures
-    ∙ sym (check_long a.«record».now a.columns.now a.rows.now a.slots.now a.reaches c.before.before.if1.false)
+    let a = c.args in
+    c.check_lent.ensures
+    ∙ ap (λ g. checked_lent (case_of g a.columns.now a.rows.now a.slots.now) a.reaches) c.grid_of.ensures
+    ∙ sym (check_long a.«record».now a.columns.now a.rows.now a.slots.now a.reaches c.if-record-lt-RECORD_NUMBERS.false)
 
-pub check-handed-spec : {M : Type 1} → statement M
-check-handed-spec = tie.close (tie.spec returns (λ c κs. search rules) (λ c κs. search rules) returns-2)
+pub check_handed_spec : {M : Type 1} → statement M
+check_handed_spec = tie.close (tie.spec returns (λ c κs. search rules) (λ c κs. search rules) returns-2)

@@ -9,22 +9,22 @@ use Rattle.crossing.specs.Inner.{table_reaches}
 use Rattle.crossing.proofs.handed.table_reaches.Statement.{statement}
 use Rattle.crossing.proofs.handed.table_reaches.Tie as tie
 
-returns : tie.Need-returns
+returns : tie.Need-returns-then-record-lt-RECORD_NUMBERS
 unfolding table_reaches
-returns c = rw (lt-leb record_numbers (length c.before.args.«record».now) c.if1.true)
+returns c = rw (lt-leb record_numbers (length c.args.«record».now) c.if-record-lt-RECORD_NUMBERS.true)
 
-returns-2 : tie.Need-returns-2
+returns-2 : tie.Need-returns-then-room-lt-TABLE
 unfolding table_reaches
 returns-2 c =
-    let a = c.before.before.args in
-    rw (le-leb record_numbers (length a.«record».now) c.before.if1.false, lt-leb 18 a.room c.if2.true)
+    let a = c.args in
+    rw (le-leb record_numbers (length a.«record».now) c.if-record-lt-RECORD_NUMBERS.false, lt-leb 18 a.room c.if-room-lt-TABLE.true)
 
-returns-3 : tie.Need-returns-3
+returns-3 : tie.Need-returns
 unfolding table_reaches
 returns-3 c =
-    let a = c.before.before.before.before.args in
-    rw (le-leb record_numbers (length a.«record».now) c.before.before.before.if1.false, le-leb 18 a.room c.before.before.if2.false)
-    (c.reaches-over.ensures ∙ ap (λ g. reaches_over g 1 (length a.marks.now)) c.before.grid-of.ensures)
+    let a = c.args in
+    rw (le-leb record_numbers (length a.«record».now) c.if-record-lt-RECORD_NUMBERS.false, le-leb 18 a.room c.if-room-lt-TABLE.false)
+    (c.reaches_over.ensures ∙ ap (λ g. reaches_over g 1 (length a.marks.now)) c.grid_of.ensures)
 
-pub table-reaches-spec : {M : Type 1} → statement M
-table-reaches-spec = tie.close (tie.spec returns returns-2 (λ c κs. search rules) (λ c κs. search rules) returns-3)
+pub table_reaches_spec : {M : Type 1} → statement M
+table_reaches_spec = tie.close (tie.spec returns returns-2 (λ c κs. search rules) (λ c κs. search rules) returns-3)

@@ -10,27 +10,27 @@ use Rattle.crossing.proofs.CrossingLaws.{check_stands}
 use Rattle.crossing.proofs.handed.verdict_handed.Statement.{statement}
 use Rattle.crossing.proofs.handed.verdict_handed.Tie as tie
 
-returns : tie.Need-returns
+returns : tie.Need-returns-then-refusal-ne0
 unfolding verdict_handed
 returns c =
-    let h = c.before.before.check-handed in
-    let a = c.before.before.before.args in
-    answered_refused h.result (check_handed a.«record».now a.columns.now a.rows.now a.slots.now (leb 4 a.room)) (verdict_of (case_in a.«record».now a.columns.now a.rows.now a.slots.now)) h.ensures c.if1.true
+    let h = c.check_handed-refusal in
+    let a = c.args in
+    answered_refused h.result (check_handed a.«record».now a.columns.now a.rows.now a.slots.now (leb 4 a.room)) (verdict_of (case_in a.«record».now a.columns.now a.rows.now a.slots.now)) h.ensures c.if-refusal-ne0.true
 
-returns-2 : tie.Need-returns-2
+returns-2 : tie.Need-returns
 unfolding verdict_handed
 returns-2 c =
-    let h = c.before.before.before.before.check-handed in
-    let a = c.before.before.before.before.before.args in
-    answered_judged h.result (check_handed a.«record».now a.columns.now a.rows.now a.slots.now (leb 4 a.room)) (verdict_of (case_in a.«record».now a.columns.now a.rows.now a.slots.now)) c.verdict-of-case.result h.ensures c.before.before.if1.false
-    (c.verdict-of-case.ensures ∙ ap (λ g. verdict_of (case_of g a.columns.now a.rows.now a.slots.now)) c.before.grid-of.ensures)
+    let h = c.check_handed-refusal in
+    let a = c.args in
+    answered_judged h.result (check_handed a.«record».now a.columns.now a.rows.now a.slots.now (leb 4 a.room)) (verdict_of (case_in a.«record».now a.columns.now a.rows.now a.slots.now)) c.verdict_of_case.result h.ensures c.if-refusal-ne0.false
+    (c.verdict_of_case.ensures ∙ ap (λ g. verdict_of (case_of g a.columns.now a.rows.now a.slots.now)) c.grid_of.ensures)
 
-pub verdict-handed-spec : {M : Type 1} → statement M
-verdict-handed-spec =
+pub verdict_handed_spec : {M : Type 1} → statement M
+verdict_handed_spec =
     tie.close
     (tie.spec
     (λ c κs. search rules)
     returns
-    (λ c κs. (check_stands _ _ _ _ _ c.before.before.check-handed.ensures c.if1.false).0)
-    (λ c κs. rw c.grid-of.ensures (check_stands _ _ _ _ _ c.before.before.before.check-handed.ensures c.before.if1.false).1.0)
+    (λ c κs. (check_stands _ _ _ _ _ c.check_handed-refusal.ensures c.if-refusal-ne0.false).0)
+    (λ c κs. rw c.grid_of.ensures (check_stands _ _ _ _ _ c.check_handed-refusal.ensures c.if-refusal-ne0.false).1.0)
     returns-2)
