@@ -5,7 +5,7 @@ use Rattle.client.proofs.caydubeesh_check.Statement.{statement}
 use Rattle.client.proofs.caydubeesh_check.Tie as tie
 
 returns : tie.Need-returns
-returns c = (ap (λ r. r.number) c.check-handed.ensures, ap (λ r. r.block) c.check-handed.ensures)
+returns c = (ap (λ r. r.number) c.check_handed-refusal.ensures, ap (λ r. r.block) c.check_handed-refusal.ensures)
 
-pub caydubeesh-check-spec : {M : Type 1} → statement M
-caydubeesh-check-spec = tie.close (tie.spec (λ c κs. search rules) returns)
+pub caydubeesh_check_spec : {M : Type 1} → statement M
+caydubeesh_check_spec = tie.close (tie.spec (λ c κs. search rules) returns)

@@ -9,17 +9,17 @@ use Rattle.metres.specs.declared.boundary.BoundarySlots.{BoundarySlots}
 use Rattle.client.proofs.caydubeesh_floor_tick.Statement.{statement}
 use Rattle.client.proofs.caydubeesh_floor_tick.Tie as tie
 
-returns : tie.Need-returns
+returns : tie.Need-returns-then-refusal-eq0
 returns c =
-    let e = c.before.before.before.before.take-boundary.ensures in
-    let n = eq-eqb (boundary_slots_of (Sea c.before.before.before.before.before.args.metres)).refusal.number 0 (sym (ap (λ (r : BoundarySlots). r.refusal.number) e) ∙ c.if1.true) in
-    rw n (ap (λ (r : BoundarySlots). r.refusal.number) e, read_back c.before.before.before.before.take-boundary.result.level c.before.before.struct_told.given.1.1.0.1 ∙ ap (λ (r : BoundarySlots). r.level) e)
+    let e = c.take_boundary-taken.ensures in
+    let n = eq-eqb (boundary_slots_of (Sea c.args.metres)).refusal.number 0 (sym (ap (λ (r : BoundarySlots). r.refusal.number) e) ∙ c.if-refusal-eq0.true) in
+    rw n (ap (λ (r : BoundarySlots). r.refusal.number) e, read_back c.take_boundary-taken.result.level c.struct_told-1.given.1.1.0.1 ∙ ap (λ (r : BoundarySlots). r.level) e)
 
-returns-2 : tie.Need-returns-2
+returns-2 : tie.Need-returns-else-refusal-eq0
 returns-2 c =
-    let e = c.before.before.before.before.take-boundary.ensures in
-    let n = ne_eqb (boundary_slots_of (Sea c.before.before.before.before.before.args.metres)).refusal.number 0 (λ z. c.if1.false (ap (λ (r : BoundarySlots). r.refusal.number) e ∙ z)) in
+    let e = c.take_boundary-taken.ensures in
+    let n = ne_eqb (boundary_slots_of (Sea c.args.metres)).refusal.number 0 (λ z. c.if-refusal-eq0.false (ap (λ (r : BoundarySlots). r.refusal.number) e ∙ z)) in
     rw n (ap (λ (r : BoundarySlots). r.refusal.number) e, refl)
 
-pub caydubeesh-floor-tick-spec : {M : Type 1} → statement M
-caydubeesh-floor-tick-spec = tie.close (tie.spec (λ c κs. search rules) returns returns-2)
+pub caydubeesh_floor_tick_spec : {M : Type 1} → statement M
+caydubeesh_floor_tick_spec = tie.close (tie.spec (λ c κs. search rules) returns returns-2)

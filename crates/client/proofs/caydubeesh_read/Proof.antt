@@ -13,26 +13,26 @@ use Rattle.crossing.specs.Crossing.{handed, numbers_of_grid, read_handed, record
 use Rattle.client.proofs.caydubeesh_read.Statement.{statement}
 use Rattle.client.proofs.caydubeesh_read.Tie as tie
 
-returns : tie.Need-returns
+returns : tie.Need-returns-then-record-lt-RECORD_NUMBERS
 unfolding record_left read_handed
-returns c = rw (lt-leb record_numbers (length c.before.before.args.«record».now) c.if1.true) (refl, (refl, (refl, (refl, (refl, refl)))))
+returns c = rw (lt-leb record_numbers (length c.args.«record».now) c.if-record-lt-RECORD_NUMBERS.true) (refl, (refl, (refl, (refl, (refl, refl)))))
 
-hand-grid-requires : tie.Need-hand-grid-requires
+hand-grid-requires : tie.Need-hand_grid-requires
 hand-grid-requires c κs =
-    let a = c.before.before.before.before.before.before.before.before.before.before.before.args in
+    let a = c.args in
     let room = length a.«record».now in
-    let told = c.before.before.before.before.before.read-case.ensures.0 ∙ ap (λ (r : Read). r.answer) (sym (read_roomy a.file.now room a.columns.now a.rows.now a.slots.now c.before.before.before.before.before.before.before.before.before.if1.false)) in
-    let ranged : (c.before.before.before.before.before.read-case.result.refusal.number ≡ 0) → Counted c.before.before.before.before.before.read-case.result.grid × Termed c.before.before.before.before.before.read-case.result.grid = subst (λ (r : Answer). r.refusal.number ≡ 0 → Counted r.grid × Termed r.grid) (sym told) (read_in_range a.file.now room a.columns.now a.rows.now a.slots.now) in
-    (λ e. (ranged e).0, (λ e. (ranged e).1, c.before.before.before.before.before.before.before.before.before.if1.false))
+    let told = c.read_case-answer.ensures.0 ∙ ap (λ (r : Read). r.answer) (sym (read_roomy a.file.now room a.columns.now a.rows.now a.slots.now c.if-record-lt-RECORD_NUMBERS.false)) in
+    let ranged : (c.read_case-answer.result.refusal.number ≡ 0) → Counted c.read_case-answer.result.grid × Termed c.read_case-answer.result.grid = subst (λ (r : Answer). r.refusal.number ≡ 0 → Counted r.grid × Termed r.grid) (sym told) (read_in_range a.file.now room a.columns.now a.rows.now a.slots.now) in
+    (λ e. (ranged e).0, (λ e. (ranged e).1, c.if-record-lt-RECORD_NUMBERS.false))
 
-returns-2 : tie.Need-returns-2
+returns-2 : tie.Need-returns
 unfolding record_left
 returns-2 c =
-    let a = c.before.before.before.before.before.before.before.before.before.before.before.before.before.args in
+    let a = c.args in
     let d = read_handed a.file.now (length a.«record».now) a.columns.now a.rows.now a.slots.now in
-    let same = sym (read_roomy a.file.now (length a.«record».now) a.columns.now a.rows.now a.slots.now c.before.before.before.before.before.before.before.before.before.before.before.if1.false) in
-    let r = c.before.before.before.before.before.before.before.read-case.ensures in
-    let h = c.before.hand-grid.ensures in
+    let same = sym (read_roomy a.file.now (length a.«record».now) a.columns.now a.rows.now a.slots.now c.if-record-lt-RECORD_NUMBERS.false) in
+    let r = c.read_case-answer.ensures in
+    let h = c.hand_grid.ensures in
     let e = r.0 ∙ ap (λ (r : Read). r.answer) same in (
       h.0 ∙ ap (λ (r : Answer). r.refusal.number) e,
       (
@@ -47,8 +47,8 @@ returns-2 c =
       ),
     )
 
-pub caydubeesh-read-spec : {M : Type 1} → statement M
-caydubeesh-read-spec =
+pub caydubeesh_read_spec : {M : Type 1} → statement M
+caydubeesh_read_spec =
     tie.close
     (tie.spec
     returns
