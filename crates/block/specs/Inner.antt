@@ -4,7 +4,6 @@ use Rattle.whole.specs.Inner.{In}
 use Rattle.slots.specs.Units.{most_level, most_screen, most_thickness}
 use Rattle.block.specs.declared.Fluids.{Fluids}
 use Rattle.block.specs.declared.geometry.Levels.{Levels}
-use Rattle.block.specs.Fluids.{fresh, salt}
 
 -- m²: the widths of a column and of a row are at most 4,096 m each
 abbrev pub most_area : ℕ

@@ -1,6 +1,6 @@
 -- The layers of a case are zones with no block in common, and joined they are the whole. Assumes nothing.
-use mathlib.Core.Bool.{Bool, ◌&&◌, ◌||◌, false, not, true}
-use mathlib.Core.Path.{◌∙◌, ◌≡◌, ap, refl, sym}
+use mathlib.Core.Bool.{Bool, ◌&&◌, ◌||◌, false, not}
+use mathlib.Core.Path.{◌∙◌, ◌≡◌, ap, sym}
 use Prim.Native.Nat.{◌+◌, ◌<◌, suc, zero, ℕ}
 use native.Mathlib.Decide.{dec_lt, ℕ_discrete}
 use native.Mathlib.Omega.{arith}
@@ -12,7 +12,7 @@ use Rattle.whole.proofs.LinearLaws.{#, from1, signed}
 use Rattle.whole.proofs.SumLaws.{sum_same}
 use Rattle.grid.specs.declared.Grid.{Grid}
 use Rattle.grid.specs.Inner.{Counted}
-use Rattle.grid.specs.Place.{blocks_of, place_of}
+use Rattle.grid.specs.Place.{place_of}
 use Rattle.grid.proofs.PlaceLaws.{place_inside}
 use Rattle.slices.specs.Slices.{Case}
 use Rattle.zone.specs.declared.lines.Lines.{Lines}

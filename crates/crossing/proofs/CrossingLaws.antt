@@ -10,7 +10,6 @@ use lib.IntN.{ℤ}
 use lib.ListN.{length, set}
 use borrow.Author.Tests.{eq-eqb, eqb-true, le-leb, leb-true, lt-leb, ne_eqb}
 use Rattle.whole.specs.Lent.{over}
-use Rattle.whole.specs.Sum.{count}
 use Rattle.whole.proofs.SearchLaws.{both, cond_both, first_most}
 use Rattle.whole.proofs.SumLaws.{count_most}
 use Rattle.grid.specs.declared.Grid.{Grid}
@@ -27,7 +26,6 @@ use Rattle.wellformed.specs.Limits.{checked_lent}
 use Rattle.wellformed.proofs.LimitsLaws.{checked_stands, lent_reached, lent_stands}
 use Rattle.report.specs.Reports.{no_report, report_of_case, telling}
 use Rattle.balance.specs.Balance.{balances_of}
-use Rattle.verdict.specs.declared.Verdict.{Verdict}
 use Rattle.verdict.specs.Places.{counted_by, places_of}
 use Rattle.verdict.specs.Ruling.{block_number, by_balance, code_of, concerning, count_of, first_place, no_verdict, verdict_by, verdict_of}
 use Rattle.verdict.proofs.PlacesLaws.{fluid_below}

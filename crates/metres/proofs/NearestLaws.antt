@@ -1,12 +1,11 @@
 -- The tick of a double is the nearest, and at a tie the even one. Assumes nothing.
 use mathlib.Core.Bool.{Bool, false, true}
-use mathlib.Core.Path.{◌∙◌, ◌≡◌, ap, refl}
-use Prim.Native.Nat.{◌%◌, ◌*◌, ◌≤◌, suc, zero, ℕ}
-use native.Mathlib.Omega.{arith}
+use mathlib.Core.Path.{◌≡◌, refl}
+use Prim.Native.Nat.{◌%◌, ◌*◌, ◌≤◌, ℕ}
 use lib.Ieee.{down, fin, up}
 use lib.Ieee.Fits.{down_pos}
 use lib.Ieee.Nearest.{closest}
-use lib.IntN.{◌*ℤ◌, ◌-ℤ◌, nat_abs, negsuc, neg_ℤ, pos, ℤ}
+use lib.IntN.{◌*ℤ◌, ◌-ℤ◌, nat_abs, pos, ℤ}
 use Rattle.whole.proofs.ClosestLaws.{IsHalf, as_near, away_neg, closest_half, no_nearer}
 use Rattle.whole.proofs.Parts.{size_neg}
 use Rattle.block.specs.Units.{ticks}

@@ -31,7 +31,6 @@ use Rattle.metres.proofs.MetresTheorems.{shown_again, shown_told}
 use Rattle.metres.proofs.ShownLaws.{metres_exact}
 use Rattle.wellformed.specs.Inner.{WellFormed}
 use Rattle.wellformed.specs.Limits.{checked_of, checks_of}
-use Rattle.wellformed.proofs.LimitsLaws.{checked_stands}
 use Rattle.wellformed.proofs.RoomLaws.{Alike, block_in_same, by_record, room_unread}
 use Rattle.report.specs.declared.Report.{Report}
 use Rattle.report.specs.Meaning.{Named, ReportRefused, fourteen, slices}

@@ -1,6 +1,6 @@
 -- What the theorems about printed tables speak of.
 use Rattle.std.specs.Prelude.{◌≢◌, ◌≡◌, ◌*◌, ℕ, drop, take}
-use Rattle.slices.specs.Slices.{none, refusal}
+use Rattle.slices.specs.Slices.{none}
 use Rattle.budget.specs.declared.Answer.{Answer}
 use Rattle.session.specs.declared.Session.{Session}
 

@@ -18,7 +18,7 @@ use Rattle.whole.proofs.SearchLaws.{both, every_all, every_start, every_more, co
 use Rattle.whole.proofs.WithinLaws.{range_in, in_ranged, within_at, within_all}
 use Rattle.slots.specs.Units.{slots_each, most_pumpage}
 use Rattle.slots.specs.Ranges.{range_of, ends_hold}
-use Rattle.slots.specs.Slots.{slots_at, part_of, block_of, is_active}
+use Rattle.slots.specs.Slots.{slots_at, block_of, is_active}
 use Rattle.slots.specs.Inner.{Active, Ends}
 use Rattle.slots.specs.Rules.{all_zero, rules_hold, slots_hold}
 

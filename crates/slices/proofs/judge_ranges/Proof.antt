@@ -1,6 +1,6 @@
 -- `judge_ranges` meets its contract: the first of two runs of refusals, with 7 of what is lent besides at the end of the first. Assumes nothing.
 use mathlib.Core.Bool.{false, true}
-use mathlib.Core.List.{List, [], ◌∷◌}
+use mathlib.Core.List.{[], ◌∷◌}
 use mathlib.Core.Path.{◌∙◌, ◌≡◌, ap, sym}
 use native.Mathlib.Omega.{arith}
 use borrow.Author.Rules.{rules}

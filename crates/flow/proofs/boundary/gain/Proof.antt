@@ -1,8 +1,6 @@
 -- `gain` meets its contract: its test is the definition's. Assumes nothing.
 use mathlib.Core.Path.{◌∙◌, ◌≡◌, ap}
 use mir.Facts.{to_z-of_z}
-use mir.Syntax.{w64}
-use mir.Val.{of_z, to_z}
 use borrow.Author.Rules.{rules}
 use borrow.Author.Tests.{eq-eqb, ne_eqb}
 use Rattle.flow.specs.Boundary.{exchanged_as, gain_of}

@@ -35,8 +35,8 @@ counted-at-requires c κs =
 turn : (c : tie.Joined-counted_at invariant-loop decreases-loop) → c.if-counted_at.count ≡ c.loop-place.count + cond (counted_by c.args.g c.args.slots.now (pair_of c.args.balances.now) c.args.code c.loop-place.place) 1 0
 turn c =
     elim c.if-counted_at.branch [
-      then-counted_at w ↦ w.count-is ∙ rw (sym c.counted_at.ensures ∙ w.if-counted_at.true)
-    | else-counted_at w ↦ w.count-is ∙ rw (sym c.counted_at.ensures ∙ w.if-counted_at.false, add-zero)
+      | then-counted_at w ↦ w.count-is ∙ rw (sym c.counted_at.ensures ∙ w.if-counted_at.true)
+      | else-counted_at w ↦ w.count-is ∙ rw (sym c.counted_at.ensures ∙ w.if-counted_at.false, add-zero)
     ]
 
 add-count : tie.Need-overflow_add-count invariant-loop decreases-loop
