@@ -115,6 +115,13 @@ brought_by_link c e fluid low d i live link = go (live_of c.grid c.slots d i) re
     go true t = alike low (link (holds t)).0 (link (holds t)).1
     go false t = brought_dead c fluid d i low t ∙ sym (brought_dead e fluid d i low (sym live ∙ t))
 
+-- in two cases of one shape, with the same blocks active, a link is live in both or in neither
+pub brought_same : (c e : Case) → SameShape c.grid e.grid → Counted c.grid → ((i : ℕ) → i < blocks_of c.grid → active_of c.slots i ≡ active_of e.slots i)
+    → (fluid : ℕ) (low : Bool) (d i : ℕ) → i < blocks_of c.grid
+    → (T (live_of c.grid c.slots d i) → (carried_of c fluid d i ≡ carried_of e fluid d i) × (counts_of c.grid c.slots fluid d i low ≡ counts_of e.grid e.slots fluid d i low))
+    → brought_of (books_of c fluid) low d i ≡ brought_of (books_of e fluid) low d i
+brought_same c e shape counted active fluid low d i l link = brought_by_link c e fluid low d i (live_alike c.grid e.grid shape c.slots e.slots counted active d i l) link
+
 -- two cases of one shape have the same active blocks, and in a fluid the same on every live link and of every active block
 pub record SameCases (c e : Case) (fluid : ℕ) : Type 0 where
   pub shape : SameShape c.grid e.grid
@@ -131,7 +138,7 @@ unfolding books_of
 books_same {c} {e} {fluid} counted same =
     record {
       active = same.active;
-      brought = λ low d i h l. brought_by_link c e fluid low d i (live_alike c.grid e.grid same.shape c.slots e.slots counted same.active d i l) (link low d i h l);
+      brought = λ low d i h l. brought_same c e same.shape counted same.active fluid low d i l (link low d i h l);
       own = same.own;
       fixed = same.fixed;
     }
