@@ -4,10 +4,14 @@
 
 pub mod print;
 
-ghost use Rattle.std.specs.Prelude.{◌≡◌, ◌<◌, ◌≤◌, ◌+◌, ◌^◌, length, take};
+ghost use Rattle.std.specs.Prelude.{◌≡◌, ◌<◌, ◌≤◌, ◌+◌, ◌^◌, IfOk, length, take};
 
 use grid::Grid;
 use numbers::signed;
+use reading::read_full;
+use std::fs::File;
+use std::io;
+use std::io::{BufReader, Read};
 
 // A program runs so many entries of a batch at most.
 pub const MOST_ENTRIES: usize = 100_000;
@@ -22,6 +26,11 @@ pub const SLOTS_ROOM: usize = 16_384;
 pub enum Due {
     Number { number: u64 },
     Ended,
+}
+
+// A batch, which is the file of that name where the program runs.
+pub fn open_batch(rt: &HostRuntime, name: &str) -> io::Result<BufReader<File>> {
+    BufReader::new(rt.alloc(), File::open(rt, name)?)
 }
 
 // A byte as a wider number.
@@ -43,34 +52,34 @@ fn four_bytes(bytes: &[u8], at: usize) -> u64
 }
 
 // The next number of a batch in four bytes.
-pub fn next_number(fd: i32) -> Due {
+pub fn next_number<R: Read>(batch: &mut R) -> io::Result<Due> {
     let mut bytes = [0u8; 4];
-    let n = io::read_full(fd, &mut bytes);
+    let n = read_full(batch, &mut bytes)?;
     if n < 4 {
-        return Due::Ended;
+        return Ok(Due::Ended);
     }
-    Due::Number {
+    Ok(Due::Number {
         number: four_bytes(&bytes, 0),
-    }
+    })
 }
 
 // The next word of a batch, a number in eight bytes.
-pub fn next_word(fd: i32) -> Due {
+pub fn next_word<R: Read>(batch: &mut R) -> io::Result<Due> {
     let mut bytes = [0u8; 8];
-    let n = io::read_full(fd, &mut bytes);
+    let n = read_full(batch, &mut bytes)?;
     if n < 8 {
-        return Due::Ended;
+        return Ok(Due::Ended);
     }
-    Due::Number {
+    Ok(Due::Number {
         number: four_bytes(&bytes, 0) + 4_294_967_296 * four_bytes(&bytes, 4),
-    }
+    })
 }
 
 // The next word of a batch, 0 at its end.
-pub fn word_or_zero(fd: i32) -> u64 {
-    match next_word(fd) {
-        Due::Ended => 0,
-        Due::Number { number } => number,
+pub fn word_or_zero<R: Read>(batch: &mut R) -> io::Result<u64> {
+    match next_word(batch)? {
+        Due::Ended => Ok(0),
+        Due::Number { number } => Ok(number),
     }
 }
 
@@ -83,32 +92,33 @@ pub fn at_most(length: usize, room: usize) -> usize
 
 // The next word of a batch, as how many numbers of a slice are lent: all of them where the word says more. It takes the slice and not its length, so that
 // the contract can speak of the part that is lent.
-pub fn next_length(fd: i32, numbers: &[i64]) -> usize
-    ensures { (result ≤ length numbers.now) × (result ≡ length (take result numbers.now)) }
+pub fn next_length<R: Read>(batch: &mut R, numbers: &[i64]) -> io::Result<usize>
+    ensures { IfOk result (λ n. (n ≤ length numbers.now) × (n ≡ length (take n numbers.now))) }
 {
-    at_most(word_or_zero(fd) as usize, numbers.len())
+    Ok(at_most(word_or_zero(batch)? as usize, numbers.len()))
 }
 
 // The next words of a batch, signed, over a slice.
-pub fn fill(fd: i32, numbers: &mut [i64]) {
+pub fn fill<R: Read>(batch: &mut R, numbers: &mut [i64]) -> io::Result<()> {
     let count = numbers.len();
     for k in 0..count {
-        let number = signed(word_or_zero(fd));
+        let number = signed(word_or_zero(batch)?);
         numbers[k] = number;
     }
+    Ok(())
 }
 
 // The record of a stored case whose columns have been read: columns, rows, layers, δ, fresh weight, salt weight, flag, step, tolerance.
-pub fn record_after(fd: i32, columns: u64) -> Grid {
-    Grid {
+pub fn record_after<R: Read>(batch: &mut R, columns: u64) -> io::Result<Grid> {
+    Ok(Grid {
         columns: columns as usize,
-        rows: word_or_zero(fd) as usize,
-        layers: word_or_zero(fd) as usize,
-        delta: signed(word_or_zero(fd)),
-        fresh_weight: signed(word_or_zero(fd)),
-        salt_weight: signed(word_or_zero(fd)),
-        flag: word_or_zero(fd),
-        step: signed(word_or_zero(fd)),
-        tolerance: signed(word_or_zero(fd)),
-    }
+        rows: word_or_zero(batch)? as usize,
+        layers: word_or_zero(batch)? as usize,
+        delta: signed(word_or_zero(batch)?),
+        fresh_weight: signed(word_or_zero(batch)?),
+        salt_weight: signed(word_or_zero(batch)?),
+        flag: word_or_zero(batch)?,
+        step: signed(word_or_zero(batch)?),
+        tolerance: signed(word_or_zero(batch)?),
+    })
 }

@@ -1,26 +1,25 @@
 // What more than one program prints: the bits of a double, and what a boundary sets.
-use libc::STDOUT_FILENO;
 use metres::boundary::BoundarySlots;
 use printing::{end_line, print_number, print_refusal, print_signed};
+use std::io;
+use std::io::Write;
 
 // A blank and the bits of a double.
-pub fn print_double(metres: f64) {
+pub fn print_double<W: Write>(out: &mut W, metres: f64) -> io::Result<()> {
     if metres != metres {
-        io::write_all(STDOUT_FILENO, b" none");
-        return;
+        return out.write_all(b" none");
     }
-    print_number(f64::to_bits(metres));
+    print_number(out, f64::to_bits(metres))
 }
 
 // The kind and level that a boundary sets, or the refusal.
-pub fn print_set(set: BoundarySlots) {
+pub fn print_set<W: Write>(out: &mut W, set: BoundarySlots) -> io::Result<()> {
     let refusal = set.refusal;
     if refusal.number != 0 {
-        print_refusal(refusal);
-        return;
+        return print_refusal(out, refusal);
     }
-    io::write_all(STDOUT_FILENO, b"set");
-    print_signed(set.kind);
-    print_signed(set.level);
-    end_line();
+    out.write_all(b"set")?;
+    print_signed(out, set.kind)?;
+    print_signed(out, set.level)?;
+    end_line(out)
 }

@@ -1,12 +1,13 @@
 // Runs stored doubles through `metres`. What it writes is held to the file `stdout`; docs/VECTORS.md has the form of both.
 #![tactic(auto)]
 
-use libc::STDOUT_FILENO;
 use metres::boundary::{Boundary, take_boundary};
 use metres::{Taken, take_in};
 use printing::{end_line, print_refusal, print_signed};
+use std::io;
+use std::io::{BufWriter, Read, Write};
 use stored::print::print_set;
-use stored::{Due, MOST_ENTRIES, next_word};
+use stored::{Due, MOST_ENTRIES, next_word, open_batch};
 
 // The double of a word. The patterns of what is no number all stand for one.
 fn double_of(bits: u64) -> f64 {
@@ -17,34 +18,36 @@ fn double_of(bits: u64) -> f64 {
 }
 
 // The tick of a double, or the refusal.
-fn print_taken(taken: Taken) {
+fn print_taken<W: Write>(out: &mut W, taken: Taken) -> io::Result<()> {
     let refusal = taken.refusal;
     if refusal.number != 0 {
-        print_refusal(refusal);
-        return;
+        return print_refusal(out, refusal);
     }
-    io::write_all(STDOUT_FILENO, b"tick");
-    print_signed(taken.tick);
-    end_line();
+    out.write_all(b"tick")?;
+    print_signed(out, taken.tick)?;
+    end_line(out)
 }
 
 // Each double of a batch is taken in, and then taken as the floor of a sea.
-fn run_doubles(fd: i32) {
+fn run_doubles<R: Read, W: Write>(batch: &mut R, out: &mut W) -> io::Result<()> {
     for _ in 0..MOST_ENTRIES {
-        match next_word(fd) {
+        match next_word(batch)? {
             Due::Ended => {
-                return;
+                return Ok(());
             }
             Due::Number { number } => {
                 let metres = double_of(number);
-                print_taken(take_in(metres));
-                print_set(take_boundary(Boundary::Sea { floor: metres }));
+                print_taken(out, take_in(metres))?;
+                print_set(out, take_boundary(Boundary::Sea { floor: metres }))?;
             }
         }
     }
+    Ok(())
 }
 
 // The one batch.
-fn main() {
-    run_doubles(os::open_read(b"doubles.bin"));
+fn main(rt: HostRuntime) -> io::Result<()> {
+    let mut out = BufWriter::new(rt.alloc(), rt.stdout())?;
+    run_doubles(&mut open_batch(&rt, "doubles.bin")?, &mut out)?;
+    out.flush()
 }

@@ -3,49 +3,54 @@
 
 mod reads;
 
-ghost use Rattle.io.specs.Counts.{IsPrefixLen};
+ghost use Rattle.std.specs.Io.{ReadsAtMost};
 
-use libc::STDOUT_FILENO;
 use printing::print_session;
+use reading::read_full;
 use reads::run_reads;
 use session::session_of_file;
-use stored::{Due, MOST_ENTRIES, at_most, next_number};
+use std::io;
+use std::io::{BufWriter, Read, Write};
+use stored::{Due, MOST_ENTRIES, at_most, next_number, open_batch};
 
 // Room for the bytes of a stored file: twice what the program takes, and more.
 const FILE_ROOM: usize = 65_536;
 
 // The next bytes of a batch to the front of a slice, of a given length as far as there is room, and how many they are.
-fn read_part(fd: i32, length: u64, file: &mut [u8]) -> usize
-    ensures { IsPrefixLen result file.new }
+fn read_part<R: Read>(batch: &mut R, length: u64, file: &mut [u8]) -> io::Result<usize>
+    ensures { ReadsAtMost result file.new }
 {
     let room = at_most(length as usize, file.len());
-    io::read_full(fd, &mut file[..room])
+    read_full(batch, &mut file[..room])
 }
 
 // What the program prints for the next file of a batch, and a line `--`.
-fn run_case(fd: i32, length: u64) {
+fn run_case<R: Read, W: Write>(batch: &mut R, out: &mut W, length: u64) -> io::Result<()> {
     let mut file = [0u8; FILE_ROOM];
-    let n = read_part(fd, length, &mut file);
-    print_session(session_of_file(&file[..n]));
-    io::write_all(STDOUT_FILENO, b"--\n");
+    let n = read_part(batch, length, &mut file)?;
+    print_session(out, session_of_file(&file[..n]))?;
+    out.write_all(b"--\n")
 }
 
 // What the program prints for each file of a batch.
-fn run_cases(fd: i32) {
+fn run_cases<R: Read, W: Write>(batch: &mut R, out: &mut W) -> io::Result<()> {
     for _ in 0..MOST_ENTRIES {
-        match next_number(fd) {
+        match next_number(batch)? {
             Due::Ended => {
-                return;
+                return Ok(());
             }
             Due::Number { number } => {
-                run_case(fd, number);
+                run_case(batch, out, number)?;
             }
         }
     }
+    Ok(())
 }
 
 // The files of both batches, one batch after the other.
-fn main() {
-    run_cases(os::open_read(b"cases.bin"));
-    run_reads(os::open_read(b"reads.bin"));
+fn main(rt: HostRuntime) -> io::Result<()> {
+    let mut out = BufWriter::new(rt.alloc(), rt.stdout())?;
+    run_cases(&mut open_batch(&rt, "cases.bin")?, &mut out)?;
+    run_reads(&mut open_batch(&rt, "reads.bin")?, &mut out)?;
+    out.flush()
 }

@@ -8,9 +8,11 @@ use budget::zone_table;
 use grid::Grid;
 use print::{print_check, print_report, print_table, print_verdict_answer};
 use report::block_report;
+use std::io;
+use std::io::{BufWriter, Read, Write};
 use stored::{
-    Due, MOST_ENTRIES, SLOTS_ROOM, WIDTHS_ROOM, fill, next_length, next_word, record_after,
-    word_or_zero,
+    Due, MOST_ENTRIES, SLOTS_ROOM, WIDTHS_ROOM, fill, next_length, next_word, open_batch,
+    record_after, word_or_zero,
 };
 use verdict::verdict_of_slices;
 use wellformed::check_slices;
@@ -27,85 +29,121 @@ enum Asked {
 }
 
 // What the check says of a case, and then what the verdict says.
-fn run_verdict(g: Grid, columns: &[i64], rows: &[i64], slots: &[i64]) {
-    print_check(check_slices(g, columns, rows, slots));
-    print_verdict_answer(verdict_of_slices(g, columns, rows, slots));
+fn run_verdict<W: Write>(
+    out: &mut W,
+    g: Grid,
+    columns: &[i64],
+    rows: &[i64],
+    slots: &[i64],
+) -> io::Result<()> {
+    print_check(out, check_slices(g, columns, rows, slots))?;
+    print_verdict_answer(out, verdict_of_slices(g, columns, rows, slots))
 }
 
 // The table of the zone whose marks are next in a batch, over the front of a lent slice.
-fn run_marked(fd: i32, g: Grid, columns: &[i64], rows: &[i64], slots: &[i64], marks: &mut [i64]) {
-    fill(fd, marks);
-    print_table(zone_table(g, columns, rows, slots, marks));
+fn run_marked<R: Read, W: Write>(
+    batch: &mut R,
+    out: &mut W,
+    g: Grid,
+    columns: &[i64],
+    rows: &[i64],
+    slots: &[i64],
+    marks: &mut [i64],
+) -> io::Result<()> {
+    fill(batch, marks)?;
+    print_table(out, zone_table(g, columns, rows, slots, marks))
 }
 
 // The table of the zone that is next in a batch: how many marks there are, and these.
-fn run_table(fd: i32, g: Grid, columns: &[i64], rows: &[i64], slots: &[i64]) {
+fn run_table<R: Read, W: Write>(
+    batch: &mut R,
+    out: &mut W,
+    g: Grid,
+    columns: &[i64],
+    rows: &[i64],
+    slots: &[i64],
+) -> io::Result<()> {
     let mut marks = [0i64; MARKS_ROOM];
-    let count = next_length(fd, &marks);
-    run_marked(fd, g, columns, rows, slots, &mut marks[..count]);
+    let count = next_length(batch, &marks)?;
+    run_marked(batch, out, g, columns, rows, slots, &mut marks[..count])
 }
 
 // Fills lent slices with the case that is next in a batch, and prints what is asked of it.
-fn run_slices(
-    fd: i32,
+fn run_slices<R: Read, W: Write>(
+    batch: &mut R,
+    out: &mut W,
     g: Grid,
     asked: Asked,
     columns: &mut [i64],
     rows: &mut [i64],
     slots: &mut [i64],
-) {
-    fill(fd, columns);
-    fill(fd, rows);
-    fill(fd, slots);
+) -> io::Result<()> {
+    fill(batch, columns)?;
+    fill(batch, rows)?;
+    fill(batch, slots)?;
     match asked {
-        Asked::Verdict => {
-            run_verdict(g, columns, rows, slots);
-        }
-        Asked::Table => {
-            run_table(fd, g, columns, rows, slots);
-        }
+        Asked::Verdict => run_verdict(out, g, columns, rows, slots),
+        Asked::Table => run_table(batch, out, g, columns, rows, slots),
         Asked::Report => {
-            let number = word_or_zero(fd) as usize;
-            print_report(block_report(g, columns, rows, slots, number));
+            let number = word_or_zero(batch)? as usize;
+            print_report(out, block_report(g, columns, rows, slots, number))
         }
     }
 }
 
 // The case of a record, in slices of the lengths that are next in a batch.
-fn run_case(fd: i32, g: Grid, asked: Asked) {
+fn run_case<R: Read, W: Write>(
+    batch: &mut R,
+    out: &mut W,
+    g: Grid,
+    asked: Asked,
+) -> io::Result<()> {
     let mut columns = [0i64; WIDTHS_ROOM];
     let mut rows = [0i64; WIDTHS_ROOM];
     let mut slots = [0i64; SLOTS_ROOM];
-    let across = next_length(fd, &columns);
-    let along = next_length(fd, &rows);
-    let deep = next_length(fd, &slots);
+    let across = next_length(batch, &columns)?;
+    let along = next_length(batch, &rows)?;
+    let deep = next_length(batch, &slots)?;
     run_slices(
-        fd,
+        batch,
+        out,
         g,
         asked,
         &mut columns[..across],
         &mut rows[..along],
         &mut slots[..deep],
-    );
+    )
 }
 
 // The cases of a batch, of each of which the same is asked.
-fn run_batch(fd: i32, asked: Asked) {
+fn run_batch<R: Read, W: Write>(batch: &mut R, out: &mut W, asked: Asked) -> io::Result<()> {
     for _ in 0..MOST_ENTRIES {
-        match next_word(fd) {
+        match next_word(batch)? {
             Due::Ended => {
-                return;
+                return Ok(());
             }
             Due::Number { number } => {
-                run_case(fd, record_after(fd, number), asked);
+                let g = record_after(batch, number)?;
+                run_case(batch, out, g, asked)?;
             }
         }
     }
+    Ok(())
 }
 
 // The cases of the three batches, one batch after the other.
-fn main() {
-    run_batch(os::open_read(b"slices.bin"), Asked::Verdict);
-    run_batch(os::open_read(b"tables.bin"), Asked::Table);
-    run_batch(os::open_read(b"reports.bin"), Asked::Report);
+fn main(rt: HostRuntime) -> io::Result<()> {
+    let mut out = BufWriter::new(rt.alloc(), rt.stdout())?;
+    run_batch(
+        &mut open_batch(&rt, "slices.bin")?,
+        &mut out,
+        Asked::Verdict,
+    )?;
+    run_batch(&mut open_batch(&rt, "tables.bin")?, &mut out, Asked::Table)?;
+    run_batch(
+        &mut open_batch(&rt, "reports.bin")?,
+        &mut out,
+        Asked::Report,
+    )?;
+    out.flush()
 }

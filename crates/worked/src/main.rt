@@ -5,10 +5,13 @@
 mod doubles;
 mod rows;
 
+use std::io;
+
 // The rows, one after the other.
-fn main() {
-    rows::run_numbers();
-    rows::run_grids();
-    doubles::run_boundaries();
-    doubles::run_shown();
+fn main(rt: HostRuntime) -> io::Result<()> {
+    let mut out = rt.stdout();
+    rows::run_numbers(&mut out)?;
+    rows::run_grids(&mut out)?;
+    doubles::run_boundaries(&mut out)?;
+    doubles::run_shown(&mut out)
 }
