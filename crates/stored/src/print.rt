@@ -6,7 +6,7 @@ use std::io::Write;
 
 // A blank and the bits of a double.
 pub fn print_double<W: Write>(out: &mut W, metres: f64) -> io::Result<()> {
-    if metres != metres {
+    if metres.is_nan() {
         return out.write_all(b" none");
     }
     print_number(out, f64::to_bits(metres))

@@ -10,6 +10,7 @@ use stored::print::print_set;
 use stored::{Due, MOST_ENTRIES, next_word, open_batch};
 
 // The double of a word. The patterns of what is no number all stand for one.
+#[tactic(auto, using(std::proofs::lemmas::Float::not_nan_f64_bits))]
 fn double_of(bits: u64) -> f64 {
     if bits % 0x8000_0000_0000_0000 > 0x7ff0_0000_0000_0000 {
         return 0.0 / 0.0;

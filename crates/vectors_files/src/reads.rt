@@ -64,14 +64,7 @@ fn print_answer<W: Write>(
 
 // How many numbers of a slice are as they were before a read.
 fn kept_in(numbers: &[i64]) -> usize {
-    let count = numbers.len();
-    let mut kept = 0;
-    for k in 0..count {
-        if numbers[k] == UNREAD {
-            kept = kept + 1;
-        }
-    }
-    kept
+    numbers.iter().filter(|z| **z == UNREAD).count()
 }
 
 // How many numbers of the lent slices, which are no longer than there is room, are as they were before a read.
