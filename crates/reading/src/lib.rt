@@ -1,30 +1,46 @@
 // Reading into a slice that is there.
 #![tactic(auto)]
 
+ghost use Rattle.std.specs.Prelude.{◌≡◌, ◌<◌, IfOk, OnErr, length, take};
 ghost use Rattle.std.specs.Io.{ReadsAtMost};
+ghost use Rattle.std.specs.Io.KnownBytes.{Consumes, IsAtEnd, Keeps};
 
 use std::io;
 use std::io::{ErrorKind, Read};
 
-// Reads until the slice is full or the input ends, and returns how many bytes it put at the slice's front. It asks for no byte beyond the slice.
-// What a signal interrupts is read again.
-pub fn read_full<R: Read>(from: &mut R, bytes: &mut [u8]) -> io::Result<usize>
-    ensures { ReadsAtMost result bytes.new }
+// One read, and another where a signal interrupts it.
+fn read_some<R: Read>(from: &mut R, bytes: &mut [u8]) -> io::Result<usize>
+    ensures bound { ReadsAtMost result bytes.new }
+    ensures taken { IfOk result (λ n. Consumes (R.remaining from.old) (R.remaining from.new) (take n bytes.new)) }
+    ensures end { IfOk result (λ n. n ≡ 0 → 0 < length bytes.old → IsAtEnd (R.remaining from.new)) }
+    ensures kept { OnErr result (Keeps (R.remaining from.old) (R.remaining from.new)) }
 {
-    let mut done = 0;
     for _ in 0..u64::MAX {
-        if done >= bytes.len() {
-            break;
-        }
-        match from.read(&mut bytes[done..]) {
-            Ok(0) => break,
-            Ok(n) => done += n,
+        match from.read(bytes) {
+            Ok(n) => return Ok(n),
             Err(e) => {
                 if e.kind() != ErrorKind::Interrupted {
                     return Err(e);
                 }
             }
         }
+    }
+    Err(io::Error::from(ErrorKind::Interrupted))
+}
+
+// Reads until the slice is full or the input ends, and returns how many bytes it put at the slice's front. It asks for no byte beyond the slice.
+pub fn read_full<R: Read>(from: &mut R, bytes: &mut [u8]) -> io::Result<usize>
+    ensures bound { ReadsAtMost result bytes.new }
+    ensures taken { IfOk result (λ n. Consumes (R.remaining from.old) (R.remaining from.new) (take n bytes.new)) }
+    ensures end { IfOk result (λ n. n < length bytes.new → IsAtEnd (R.remaining from.new)) }
+{
+    let mut done = 0;
+    while done < bytes.len() {
+        let n = read_some(from, &mut bytes[done..])?;
+        if n == 0 {
+            return Ok(done);
+        }
+        done += n;
     }
     Ok(done)
 }

@@ -1,6 +1,10 @@
--- What is read stands within the slice, which keeps its length.
-use Rattle.std.proofs.Common.{◌≡◌, ◌≤◌, length}
+-- What is read stands at the front of the slice, which keeps its length, and is what the input gave.
+use Rattle.std.proofs.Common.{◌≡◌, ◌≤◌, ◌-◌, length, take}
+use Rattle.std.specs.Io.KnownBytes.{Consumes}
 use Rattle.reading.proofs.read_full.Given as goal
 
-abbrev pub invariant-loop : goal.invariant-loop
-invariant-loop g l = (length l.bytes ≡ length l.initial.bytes) × (l.done ≤ length l.bytes)
+abbrev pub invariant-loop-done : goal.invariant-loop-done
+invariant-loop-done g l = (length l.bytes ≡ length l.initial.bytes) × (l.done ≤ length l.bytes) × Consumes (g.R.Read.remaining l.initial.from) (g.R.Read.remaining l.from) (take l.done l.bytes)
+
+abbrev pub decreases-loop-done : goal.decreases-loop-done
+decreases-loop-done g l = length l.initial.bytes - l.done
