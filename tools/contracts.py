@@ -9,26 +9,30 @@ import marks
 
 # Comments and literals, in which no word and no bracket counts.
 HIDDEN = {
-    ".rt": re.compile(r"//[^\n]*|/\*.*?\*/|b?\"(?:\\.|[^\"\\])*\"|b?'(?:\\.|[^'\\\n])'", re.DOTALL),
+    ".rt": re.compile(r"//[^\n]*|/\*.*?\*/|\bb?r(#*)\".*?\"\1|b?\"(?:\\.|[^\"\\])*\"|b?'(?:\\.|[^'\\\n])'", re.DOTALL),
     ".antt": re.compile(r"--(?<!\S--)[^\n]*|\{-.*?-\}", re.DOTALL),
 }
-# A function as far as its name, a block of a module, of a type or of anything else, and a block's end.
+# A function as far as its name, a block of a module, of a type, of a trait or of anything else, and a block's end. What an `impl` of a trait has is as public
+# as the trait, and so counts as public, as what a `pub trait` has.
 PART = re.compile(
     r"(?P<shown>\bpub\s+)?(?:(?:const|extern|ghost|unsafe)\s+)*\bfn\s+(?P<function>\w+)"
     r"|(?P<opened>\bpub\s+)?\bmod\s+(?P<module>\w+)\s*\{"
-    r"|\bimpl\b(?:\s*<[^>]*>)?\s*(?P<type>\w+)[^{]*\{"
-    r"|[{}]"
+    r"|^[ \t]*(?:unsafe\s+)?impl\b(?P<kind>[^{;]*)\{"
+    r"|(?P<told>\bpub\s+)?\btrait\s+(?P<trait>\w+)[^{;]*\{"
+    r"|[{}]",
+    re.MULTILINE,
 )
-CLAUSE = re.compile(r"\b(requires|ensures|ghost)\b[^{]*\{|\{")
+CLAUSE = re.compile(r"\b(requires|ensures|ghost)\b[^{;]*\{|[{;]")
 DECLARED = re.compile(r"(\bpub\s+)?\bmod\s+(\w+)\s*;")
 PASSED_ON = re.compile(r"\bpub\s+use\b")
-CLOSED_BY = {"(": ")", "{": "}"}
+RESULT = re.compile(r"\s*->")
+CLOSED_BY = {"(": ")", "{": "}", "[": "]", "<": ">"}
 
 # In a file of theorems: one with its type, a line that names what is learnt of a call, and what a type says of a result and of a place.
-THEOREM = re.compile(r"^pub (one-outcome-\S+) :(.*?)^(?=\S)", re.DOTALL | re.MULTILINE)
-LEARNT = re.compile(r"^use Rattle·(\w+)·proofs\.proofs\.([\w.]+)\.Reads\.\{\s*Learnt as (\S+)\s*\}", re.MULTILINE)
-MEANT = re.compile(r"^use Rattle·whole(?:·specs)?(?:\.specs)+\.Outcome\.\{([^}]*)\}", re.MULTILINE)
-OUTCOME = re.compile(r"OneResult ([^\s()]+)|OneContent ([^\s()]+) \(λ κs e\. now \(e((?: \.1)*) \.0\)\)")
+THEOREM = re.compile(r"^pub (one_outcome_\S+) :(.*?)^(?=\S)", re.DOTALL | re.MULTILINE)
+LEARNT = re.compile(r"^use Rattle\.(\w+)\.proofs\.([\w.]+)\.Reads\.\{\s*Learnt as ([^\s,}]+)\s*,?\s*\}", re.MULTILINE)
+MEANT = re.compile(r"^use Rattle\.whole\.specs\.Outcome\.\{([^}]*)\}", re.MULTILINE)
+OUTCOME = re.compile(r"OneResult ([^\s()]+)|OneContent ([^\s()]+) \(λ κs e\. e((?:\.1)*)\.0\.now\)")
 
 
 class Function(typing.NamedTuple):
@@ -49,11 +53,8 @@ class Function(typing.NamedTuple):
 
     def without_equation(self):
         """What the contract gives no equation of: the result, and what is lent, as the function returns."""
-        missing = [] if not self.returns or any(map(is_of_result, self.ensures)) else ["its result"]
-        for name in self.lent.values():
-            left = re.compile(rf"«?\b{name}\b»?\s*\.exit\b")
-            missing += [] if any(left.search(clause) and "≡" in clause for clause in self.ensures) else [f"`{name}` at exit"]
-        return missing
+        missing = [] if not self.returns or any(is_equation_of("result", clause) for clause in self.ensures) else ["its result"]
+        return missing + [f"`{name}.new`" for name in self.lent.values() if not any(is_equation_of(f"{name}.new", clause) for clause in self.ensures)]
 
 
 class Theorem(typing.NamedTuple):
@@ -68,10 +69,12 @@ class Theorem(typing.NamedTuple):
     places: set
 
 
-def is_of_result(clause):
-    """Whether a clause is an equation in which the result stands: the last name that its λ binds, `r` of `λ r.`, `λ (r : R).` and `λ g r.`"""
-    bound = re.match(r"\s*λ([^.]*?)(\w+)\s*(?::[^).]*)?\)?\s*\.(.*)", clause, re.DOTALL)
-    return bound is not None and bound[2] != "_" and "≡" in bound[3] and re.search(rf"\b{bound[2]}\b", bound[3]) is not None
+def is_equation_of(place, clause):
+    """Whether a clause is an equation in which a place stands: `result`, or a parameter as it is left, `out.new`. A name that a clause takes for a word of its
+    own stands between « and »."""
+    name, _, projection = place.partition(".")
+    stands = rf"(?<![\w.'«])(?:{name}|«{name}»)" + (rf"\s*\.{projection}" if projection else "") + r"(?![\w'])"
+    return "≡" in clause and re.search(stands, clause) is not None
 
 
 @functools.lru_cache(maxsize=None)
@@ -86,10 +89,10 @@ def line_at(text, at):
 
 
 def after_bracket(text, at):
-    """The place after the bracket that closes the one at a place."""
+    """The place after the bracket that closes the one at a place. In `->` there is none."""
     depth, opened, closed = 0, text[at], CLOSED_BY[text[at]]
     while True:
-        depth += (text[at] == opened) - (text[at] == closed)
+        depth += (text[at] == opened) - (text[at] == closed and text[at - 1:at + 1] != "->")
         at += 1
         if depth == 0:
             return at
@@ -107,36 +110,56 @@ def lent_in(parameters):
 
 def signature(text, at):
     """Of the function whose name ends at a place: whether it returns something, what is lent, what it requires and ensures, and where its body begins."""
-    opened = text.index("(", at)
+    after_name = re.compile(r"\s*").match(text, at).end()
+    opened = text.index("(", after_bracket(text, after_name) if text[after_name] == "<" else at)
     closed = after_bracket(text, opened)
     clauses = {"requires": [], "ensures": [], "ghost": []}
-    clause = CLAUSE.search(text, closed)
-    returns = "->" in text[closed:clause.start()]
+    clause = CLAUSE.search(text, after_result(text, closed))
+    returns = RESULT.match(text, closed) is not None
     while clause[1]:
         end = after_bracket(text, clause.end() - 1)
         clauses[clause[1]].append(text[clause.end():end - 1])
         clause = CLAUSE.search(text, end)
-    return returns, lent_in(text[opened + 1:closed - 1]), clauses["requires"], clauses["ensures"], clause.end()
+    return returns, lent_in(text[opened + 1:closed - 1]), clauses["requires"], clauses["ensures"], clause.start()
+
+
+def after_result(text, at):
+    """The place after the type of a function's result, whose brackets may hold a `;`."""
+    while text[at] not in "{;" and not re.compile(r"\b(?:requires|ensures|ghost|where)\b").match(text, at):
+        at = after_bracket(text, at) if text[at] in "([" else at + 1
+    return at
+
+
+def type_of(kind):
+    """Of an `impl`, what stands between that word and its block: the type, and whether it is of a trait."""
+    at = len(kind) - len(kind.lstrip())
+    kind = kind[after_bracket(kind, at) if kind[at:at + 1] == "<" else at:]
+    trait, of_trait, type_ = kind.rpartition(" for ")
+    return re.search(r"\w+", type_)[0], of_trait != ""
 
 
 def functions_in(file, crate, modules, public):
     """The functions of a file, which is a module of a crate. In a body nothing is public."""
     text = bare(file)
-    found, within, at = [], [(modules, public)], 0
+    found, within, at = [], [(modules, public, False)], 0
     while part := PART.search(text, at):
-        names, reached = within[-1]
+        names, reached, all_shown = within[-1]
         at = part.end()
         if part["function"]:
             *contract, at = signature(text, at)
-            path, is_public = names + (part["function"],), reached and part["shown"] is not None
+            path, is_public = names + (part["function"],), reached and (all_shown or part["shown"] is not None)
             found.append(Function(crate, path, file, line_at(text, part.start("function")), is_public, *contract))
-            within.append((path, False))
+            within += [(path, False, False)] if text[at] == "{" else []
+            at += 1
         elif part["module"]:
-            within.append((names + (part["module"],), reached and part["opened"] is not None))
-        elif part["type"]:
-            within.append((names + (part["type"],), reached))
+            within.append((names + (part["module"],), reached and part["opened"] is not None, False))
+        elif part["kind"]:
+            type_, of_trait = type_of(part["kind"])
+            within.append((names + (type_,), reached, of_trait))
+        elif part["trait"]:
+            within.append((names + (part["trait"],), reached and part["told"] is not None, True))
         elif part[0] == "{":
-            within.append((names, False))
+            within.append((names, False, False))
         else:
             within.pop()
     return found

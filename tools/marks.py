@@ -28,10 +28,10 @@ def write(name, text):
 
 
 def crates():
-    """The crates of crates.txt, each with the crates of the repository that it uses, in the file's order."""
+    """The crates of crates.txt, each with the crates of the repository that it uses, in the file's order. After the name a line may say what is built."""
     listed = {}
     for line in (ROOT / "crates.txt").read_text(encoding="utf-8").splitlines():
         name, colon, uses = line.partition("#")[0].partition(":")
         if colon:
-            listed[name.strip()] = uses.split()
+            listed[name.split()[0]] = uses.split()
     return {name: [used for used in uses if used in listed] for name, uses in listed.items()}

@@ -61,7 +61,7 @@ def theorem_faults():
             found.append((one.file, one.line, f"{one.name} is not `OneResult` and `OneContent` of what is learnt of one function of {one.crate}, alone"))
             continue
         left_out = ["the result"] if function.returns and not one.result else []
-        left_out += [f"`{name}` at exit" for place, name in function.lent.items() if place not in one.places]
+        left_out += [f"`{name}.new`" for place, name in function.lent.items() if place not in one.places]
         found += [(one.file, one.line, f"{one.name} says nothing of {what}") for what in left_out]
     return found
 
@@ -79,7 +79,7 @@ def row_faults(cells):
     elif theorem.of not in (None, function.path):
         wrong.append(f"{theorem.name} is of {FUNCTIONS.get((theorem.crate, theorem.of), 'no function')} and not of {function}")
     definitions = CODE.findall(cells["definition"])
-    words = set(re.findall(r"[^\s(){}⌜⌝.,]+", " ".join(function.ensures)))
+    words = set(re.findall(r"[^\s(){}«».,]+", " ".join(function.ensures)))
     wrong += [] if definitions else [f"no definition for {function}"]
     wrong += [f"{name} is not in the contract of {function}" for name in definitions if name not in words]
     tried = cells.get("edit", cells.get("wrong answers ruled out", ""))
