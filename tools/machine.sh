@@ -1,5 +1,5 @@
-# To be sourced by scripts in bash: how programs for x86-64 are compiled and run here. Rattle compiles for x86-64 alone; on another machine Debian has a
-# compiler and an emulator for them, which tools/prepare installs.
+# To be sourced by scripts in bash: how programs for x86-64 are compiled and run here. Rattle runs on x86-64, and compiles for it alone; what it has made
+# can be linked and run on another machine too, for which Debian has a compiler and an emulator, which tools/prepare installs.
 #
 #   x86_64_tool       what stands before the name of a tool for x86-64, as in ${x86_64_tool}gcc
 #   x86_64_run WORD.. runs a program for x86-64
@@ -32,15 +32,9 @@ if [ "$(uname -m)" != x86_64 ]; then
     RUSTC=$(x86_64_rustc)
     if [ -n "$RUSTC" ]; then export RUSTC RUSTDOC=${RUSTC%c}doc; else unset RUSTC; fi
 
-    # By Debian's emulator, or by the kit's, which suffices for the programs in Rattle.
+    # By Debian's emulator.
     x86_64_run() {
-        if command -v qemu-x86_64 >/dev/null && [ -e /lib64/ld-linux-x86-64.so.2 ]; then
-            qemu-x86_64 "$@"
-            return
-        fi
-        local kit
-        kit=$(dirname "$(dirname "$(rt doc)")") || return
-        "$kit/on/$(uname -m)/toolchain/bin/qemu-x86_64" "$kit/toolchain/lib/ld-linux-x86-64.so.2" --library-path "$kit/toolchain/lib" "$@"
+        qemu-x86_64 "$@"
     }
 fi
 
