@@ -1,9 +1,16 @@
 //! Links the library that `client/build` makes in target/lib of the repository, and refuses one that is older than its sources.
 
 use std::fs;
-use std::path::Path;
+use std::path::{Path, PathBuf};
 use std::process::exit;
 use std::time::SystemTime;
+
+/// What the crates are proved and built from. What else rt makes in a crate's folder is no source.
+fn parts_of_crates(top: &Path) -> Vec<PathBuf> {
+    let crates = fs::read_dir(top.join("crates")).into_iter().flatten().flatten();
+    let parts = crates.flat_map(|entry| ["src", "specs", "proofs"].map(|part| entry.path().join(part)));
+    parts.filter(|part| part.is_dir()).collect()
+}
 
 /// The latest time at which a file, or a file below a folder, was changed.
 fn latest(path: &Path) -> Option<SystemTime> {
@@ -15,7 +22,8 @@ fn latest(path: &Path) -> Option<SystemTime> {
 fn main() {
     let top = Path::new(env!("CARGO_MANIFEST_DIR")).join("..");
     let archive = top.join("target/lib/libcaydubeesh.a");
-    let sources = ["crates.txt", "crates", "client/src/words.c", "client/src/words.def", "client/include"].map(|source| top.join(source));
+    let files = ["crates.txt", "client/src/words.c", "client/src/words.def", "client/include"].map(|source| top.join(source));
+    let sources = [files.to_vec(), parts_of_crates(&top)].concat();
     for path in sources.iter().chain([&archive]) {
         println!("cargo:rerun-if-changed={}", path.display());
     }
