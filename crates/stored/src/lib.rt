@@ -11,7 +11,7 @@ use numbers::signed;
 use reading::read_full;
 use std::fs::File;
 use std::io;
-use std::io::{BufReader, Read};
+use std::io::Read;
 
 // A program runs so many entries of a batch at most.
 pub const MOST_ENTRIES: usize = 100_000;
@@ -29,8 +29,8 @@ pub enum Due {
 }
 
 // A batch, which is the file of that name where the program runs.
-pub fn open_batch(rt: &HostRuntime, name: &str) -> io::Result<BufReader<File>> {
-    BufReader::new(rt.alloc(), File::open(rt, name)?)
+pub fn open_batch(rt: &HostRuntime, name: &str) -> io::Result<File> {
+    File::open(rt, name)
 }
 
 // A byte as a wider number.

@@ -5,7 +5,7 @@ use metres::boundary::{Boundary, take_boundary};
 use metres::{Taken, take_in};
 use printing::{end_line, print_refusal, print_signed};
 use std::io;
-use std::io::{BufWriter, Read, Write};
+use std::io::{Read, Write};
 use stored::print::print_set;
 use stored::{Due, MOST_ENTRIES, next_word, open_batch};
 
@@ -48,7 +48,5 @@ fn run_doubles<R: Read, W: Write>(batch: &mut R, out: &mut W) -> io::Result<()> 
 
 // The one batch.
 fn main(rt: HostRuntime) -> io::Result<()> {
-    let mut out = BufWriter::new(rt.alloc(), rt.stdout())?;
-    run_doubles(&mut open_batch(&rt, "doubles.bin")?, &mut out)?;
-    out.flush()
+    run_doubles(&mut open_batch(&rt, "doubles.bin")?, &mut rt.stdout())
 }

@@ -3,6 +3,7 @@
 
 mod reads;
 
+ghost use Rattle.std.specs.Prelude.{◌≡◌, OnErr, length};
 ghost use Rattle.std.specs.Io.{ReadsAtMost};
 
 use printing::print_session;
@@ -10,7 +11,7 @@ use reading::read_full;
 use reads::run_reads;
 use session::session_of_file;
 use std::io;
-use std::io::{BufWriter, Read, Write};
+use std::io::{Read, Write};
 use stored::{Due, MOST_ENTRIES, at_most, next_number, open_batch};
 
 // Room for the bytes of a stored file: twice what the program takes, and more.
@@ -18,7 +19,8 @@ const FILE_ROOM: usize = 65_536;
 
 // The next bytes of a batch to the front of a slice, of a given length as far as there is room, and how many they are.
 fn read_part<R: Read>(batch: &mut R, length: u64, file: &mut [u8]) -> io::Result<usize>
-    ensures { ReadsAtMost result file.new }
+    ensures bound { ReadsAtMost result file.new }
+    ensures err { OnErr result (length file.new ≡ length file.old) }
 {
     let room = at_most(length as usize, file.len());
     read_full(batch, &mut file[..room])
@@ -49,8 +51,7 @@ fn run_cases<R: Read, W: Write>(batch: &mut R, out: &mut W) -> io::Result<()> {
 
 // The files of both batches, one batch after the other.
 fn main(rt: HostRuntime) -> io::Result<()> {
-    let mut out = BufWriter::new(rt.alloc(), rt.stdout())?;
+    let mut out = rt.stdout();
     run_cases(&mut open_batch(&rt, "cases.bin")?, &mut out)?;
-    run_reads(&mut open_batch(&rt, "reads.bin")?, &mut out)?;
-    out.flush()
+    run_reads(&mut open_batch(&rt, "reads.bin")?, &mut out)
 }

@@ -9,7 +9,7 @@ use grid::Grid;
 use print::{print_check, print_report, print_table, print_verdict_answer};
 use report::block_report;
 use std::io;
-use std::io::{BufWriter, Read, Write};
+use std::io::{Read, Write};
 use stored::{
     Due, MOST_ENTRIES, SLOTS_ROOM, WIDTHS_ROOM, fill, next_length, next_word, open_batch,
     record_after, word_or_zero,
@@ -133,7 +133,7 @@ fn run_batch<R: Read, W: Write>(batch: &mut R, out: &mut W, asked: Asked) -> io:
 
 // The cases of the three batches, one batch after the other.
 fn main(rt: HostRuntime) -> io::Result<()> {
-    let mut out = BufWriter::new(rt.alloc(), rt.stdout())?;
+    let mut out = rt.stdout();
     run_batch(
         &mut open_batch(&rt, "slices.bin")?,
         &mut out,
@@ -144,6 +144,5 @@ fn main(rt: HostRuntime) -> io::Result<()> {
         &mut open_batch(&rt, "reports.bin")?,
         &mut out,
         Asked::Report,
-    )?;
-    out.flush()
+    )
 }
