@@ -18,11 +18,11 @@ use stored::{Due, MOST_ENTRIES, at_most, next_number, open_batch};
 const FILE_ROOM: usize = 65_536;
 
 // The next bytes of a batch to the front of a slice, of a given length as far as there is room, and how many they are.
-fn read_part<R: Read>(batch: &mut R, length: u64, file: &mut [u8]) -> io::Result<usize>
+fn read_part<R: Read>(batch: &mut R, count: u64, file: &mut [u8]) -> io::Result<usize>
     ensures bound { ReadsAtMost result file.new }
     ensures err { OnErr result (length file.new ≡ length file.old) }
 {
-    let room = at_most(length as usize, file.len());
+    let room = at_most(count as usize, file.len());
     read_full(batch, &mut file[..room])
 }
 
