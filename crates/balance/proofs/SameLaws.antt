@@ -7,12 +7,12 @@ use Prim.Native.Nat.{◌%◌, ◌*◌, ◌+◌, ◌-◌, ◌/◌, ◌<◌, ◌�
 use native.Mathlib.Omega.{arith}
 use lib.Dec.{T, leb, ltb}
 use lib.IntN.{◌+ℤ◌, ◌-ℤ◌, neg_ℤ, ℤ}
+use Rattle.std.specs.Prelude.{Some}
 use Rattle.whole.specs.Sum.{back, only}
 use Rattle.whole.proofs.SearchLaws.{holds, same_test}
 use Rattle.whole.proofs.SumLaws.{only_same, sum_same}
 use Rattle.grid.specs.declared.Grid.{Grid}
 use Rattle.grid.specs.Inner.{Counted}
-use Rattle.grid.specs.declared.place.Neighbour.TheVariants.{At}
 use Rattle.grid.specs.Place.{behind_of, blocks_of, has_next, next_of, place_of, stride_of}
 use Rattle.grid.specs.Units.{above}
 use Rattle.grid.proofs.PlaceLaws.{behind_inside}
@@ -188,7 +188,7 @@ module _ (c : Case) (columns rows slots : List ℤ) (widths : Alike c (case_of c
 
     -- a lateral face between two of them, with those behind it among them
     pub lateral_alike : (fluid d i : ℕ) → d < above → T (next_of g d i) → Same i → Same (i + stride_of g d)
-        → ((low : Bool) (p : ℕ) → behind_of g d i low ≡ At p → Same p)
+        → ((low : Bool) (p : ℕ) → behind_of g d i low ≡ Some p → Same p)
         → lateral_at c fluid d i ≡ lateral_at other fluid d i
     lateral_alike fluid d i h next low high behind =
         lateral_same c columns rows slots fluid d i

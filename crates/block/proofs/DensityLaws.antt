@@ -1,4 +1,5 @@
 -- Bounds of the four rules that read what the waters weigh. Callers cite these and open no rule. Assumes nothing.
+use mathlib.Core.Path.{◌≡◌, subst, sym}
 use native.Mathlib.Omega.{arith}
 use lib.IntN.{◌*ℤ◌, ◌+ℤ◌, ◌-ℤ◌, neg_ℤ, pos, ℤ}
 use lib.Signed.{◌≤ℤ◌, le_z_yes}
@@ -88,6 +89,10 @@ module _ (w : Weights) (t : Weighed w) where
       above a f z p r = from2 p r (search (signed, # a, # f, # z) depth 40) (omega arith)
 
 -- ---- of a case
+-- the pair that `weights_of` hands out
+pub handed : {g : Grid} {w : Weights} → Termed g → w ≡ weights_of g → Weighed w
+handed t e = subst Weighed (sym e) t.weighed
+
 pub interface_in : (g : Grid) (h : Fluids) → Termed g → Heads h → Abs most_interface (interface_of g h)
 unfolding interface_of
 interface_in g h t = interface_by_in (weights_of g) t.weighed h

@@ -12,7 +12,6 @@ use super::density::{interface, salt_k};
 use super::units::FRESH;
 use grid::Grid;
 use slots::Block;
-use whole::clamp;
 
 // The levels that part a block's waters, ticks: salt water from the base to the interface Z, which is held, and fresh water from there to
 // the saturated top U.
@@ -24,6 +23,7 @@ pub struct Levels {
 }
 
 // "Aquifer top = base + thickness", ticks. Inner: the slots are within their ends.
+#[tactic(auto, unfolding(crate::specs::Geometry::aquifer_top_of))]
 pub fn aquifer_top(block: Block) -> i64
     requires { Ends block }
     ensures { result ≡ aquifer_top_of block }
@@ -32,22 +32,26 @@ pub fn aquifer_top(block: Block) -> i64
 }
 
 // Whether a block has a water table: "in the top layer with flag 1".
+#[tactic(auto, unfolding(crate::specs::Geometry::has_water_table))]
 pub fn has_water_table(g: Grid, top: bool) -> bool
     ensures { result ≡ has_water_table g top }
 {
-    if top { g.flag == 1 } else { false }
+    top && g.flag == 1
 }
 
 // "Saturated top U", ticks. Inner: slots and heads are in range.
+#[tactic(auto, unfolding(crate::specs::Geometry::saturated_top_of, crate::specs::Geometry::aquifer_top_of))]
 fn saturated_top(g: Grid, block: Block, top: bool, heads: Fluids) -> i64
     requires ends { Ends block }
     requires heads { Heads heads }
     ensures { result ≡ saturated_top_of g block top heads }
 {
+    let top_of_aquifer = aquifer_top(block);
     if has_water_table(g, top) {
-        return clamp(heads.fresh, block.base, aquifer_top(block));
+        heads.fresh.clamp(block.base, top_of_aquifer)
+    } else {
+        top_of_aquifer
     }
-    aquifer_top(block)
 }
 
 // Base, held interface and saturated top of a block, ticks, by its old or its new heads. Inner: the terms, slots and heads are in range.
@@ -58,7 +62,7 @@ pub fn levels_of(g: Grid, block: Block, top: bool, heads: Fluids) -> Levels
     ensures { result ≡ levels_of g block top heads }
 {
     let saturated = saturated_top(g, block, top, heads);
-    let held = clamp(interface(g, heads), block.base, saturated);
+    let held = interface(g, heads).clamp(block.base, saturated);
     Levels {
         base: block.base,
         interface: held,
@@ -78,6 +82,7 @@ pub fn thicknesses(levels: Levels) -> Fluids
 }
 
 // The levels of a block whose base stands at a level, by the thickness of each fluid, ticks. Inner: all are in range.
+#[tactic(auto, unfolding(crate::specs::Inner::levels_on))]
 pub fn levels_on(base: i64, waters: Fluids) -> Levels
     requires abs { Abs most_level base }
     requires thick { Thick waters }
@@ -98,7 +103,8 @@ pub fn k_in(g: Grid, block: Block, fluid: usize) -> i64
     ensures { result ≡ k_of g block fluid }
 {
     if fluid == FRESH {
-        return block.k;
+        block.k
+    } else {
+        salt_k(g, block.k)
     }
-    salt_k(g, block.k)
 }

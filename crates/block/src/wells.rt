@@ -7,7 +7,7 @@ ghost use Rattle.block.specs.Wells.{length_within, lengths_of, is_dry, shares_of
 use super::geometry::Levels;
 use super::{Fluids, together};
 use slots::Block;
-use whole::{cut_div, greatest, is_zero, least};
+use whole::cut_div;
 
 // The length in ticks that a block's screen has between two levels; 0 where it has none. Inner: the slots and levels are in range.
 fn length_within(block: Block, low: i64, high: i64) -> i64
@@ -16,10 +16,7 @@ fn length_within(block: Block, low: i64, high: i64) -> i64
     requires level_2 { Level high }
     ensures { result ≡ length_within block low high }
 {
-    greatest(
-        0,
-        least(block.screen_top, high) - greatest(block.screen_bottom, low),
-    )
+    (block.screen_top.min(high) - block.screen_bottom.max(low)).max(0)
 }
 
 // "the screen's lengths inside fresh [Z, U] and salt [base, Z]", ticks. Inner: the slots and levels are in range.
@@ -35,15 +32,13 @@ pub fn screen_lengths(block: Block, levels: Levels) -> Fluids
 }
 
 // "Pumpage other than 0 with wetted length 0 is a dry well." Inner: the slots and lengths are in range.
+#[tactic(auto, unfolding(crate::specs::Wells::is_dry))]
 pub fn is_dry(block: Block, lengths: Fluids) -> bool
     requires ends { Ends block }
     requires thick { Thick lengths }
     ensures { result ≡ is_dry block lengths }
 {
-    if is_zero(block.pumpage) {
-        return false;
-    }
-    is_zero(together(lengths))
+    block.pumpage != 0 && together(lengths) == 0
 }
 
 // "Fresh share = cut(pumpage·fresh length/wetted length), salt the remainder", litres a day; none of a screen that is nowhere wet.
@@ -56,10 +51,11 @@ pub fn shares(block: Block, lengths: Fluids) -> Fluids
     let wetted = together(lengths);
     if 0 < wetted {
         let fresh = cut_div(block.pumpage * lengths.fresh, wetted);
-        return Fluids {
+        Fluids {
             fresh,
             salt: block.pumpage - fresh,
-        };
+        }
+    } else {
+        Fluids { fresh: 0, salt: 0 }
     }
-    Fluids { fresh: 0, salt: 0 }
 }

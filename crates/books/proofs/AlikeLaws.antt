@@ -7,10 +7,9 @@ use Prim.Native.Nat.{◌+◌, ◌<◌, ◌≤◌, suc, zero, ℕ}
 use native.Mathlib.Omega.{arith}
 use lib.Dec.{eqb}
 use lib.IntN.{ℤ}
+use Rattle.std.specs.Prelude.{Option, Some, None}
 use Rattle.whole.proofs.SearchLaws.{first_same}
 use Rattle.grid.specs.declared.Grid.{Grid}
-use Rattle.grid.specs.declared.place.Neighbour.{Neighbour}
-use Rattle.grid.specs.declared.place.Neighbour.TheVariants.{At, Outside}
 use Rattle.grid.specs.Place.{behind_of, blocks_of, stride_of}
 use Rattle.grid.specs.Units.{above}
 use Rattle.slots.specs.Slots.{block_of}
@@ -62,16 +61,16 @@ module _ (c : Case) (columns rows slots : List ℤ) where
   other = case_of g columns rows slots
 
   -- of a block behind a tip its width along the axis and its waters are asked
-  pub behind_same : (fluid d p : ℕ) → along_of c d p ≡ along_of other d p → waters_of g c.slots p ≡ waters_of g slots p → behind_at c fluid d (At p) ≡ behind_at other fluid d (At p)
+  pub behind_same : (fluid d p : ℕ) → along_of c d p ≡ along_of other d p → waters_of g c.slots p ≡ waters_of g slots p → behind_at c fluid d (Some p) ≡ behind_at other fluid d (Some p)
   behind_same fluid d p along waters = rw (along, waters)
 
-  module _ (fluid d i : ℕ) (behind : (low : Bool) (p : ℕ) → behind_of g d i low ≡ At p → behind_at c fluid d (At p) ≡ behind_at other fluid d (At p)) where
+  module _ (fluid d i : ℕ) (behind : (low : Bool) (p : ℕ) → behind_of g d i low ≡ Some p → behind_at c fluid d (Some p) ≡ behind_at other fluid d (Some p)) where
     behind_either : (low : Bool) → behind_at c fluid d (behind_of g d i low) ≡ behind_at other fluid d (behind_of g d i low)
     behind_either low = go (behind_of g d i low) (behind low)
       where
-        go : (there : Neighbour) → ((p : ℕ) → there ≡ At p → behind_at c fluid d (At p) ≡ behind_at other fluid d (At p)) → behind_at c fluid d there ≡ behind_at other fluid d there
-        go (At p) same = same p refl
-        go Outside same = refl
+        go : (there : Option ℕ) → ((p : ℕ) → there ≡ Some p → behind_at c fluid d (Some p) ≡ behind_at other fluid d (Some p)) → behind_at c fluid d there ≡ behind_at other fluid d there
+        go (Some p) same = same p refl
+        go None same = refl
 
     -- what stands behind a tip is told by the blocks behind both sides
     pub tip_same : (low high : ℤ) → tip_behind_of c fluid d i low high ≡ tip_behind_of other fluid d i low high

@@ -8,9 +8,9 @@ use native.Mathlib.Omega.{arith}
 use lib.Dec.{T, eqb}
 use lib.IntN.{neg_ℤ, pos, ℤ}
 use lib.Signed.{lt_z}
+use Rattle.std.specs.Prelude.{Some}
 use Rattle.whole.specs.Sum.{only}
 use Rattle.whole.proofs.SearchLaws.{true_is}
-use Rattle.grid.specs.declared.place.Neighbour.TheVariants.{At}
 use Rattle.grid.specs.Meaning.{Beside}
 use Rattle.grid.specs.Place.{behind_of, blocks_of, coordinate_of, extent_of, place_of, stride_of}
 use Rattle.grid.specs.Units.{above, next_row}
@@ -64,8 +64,8 @@ module _ (c : Case) (judged : Judged c) (fluid d i : ℕ) (low high : ℤ) (insi
 
   -- "let p be the block on a's other side", by column and row: p is the block that touches a on the side away from the face.
   pub tip_from_neighbour : (p : ℕ) → d ≤ next_row → p < blocks_of c.grid
-      → (lt_z (pos 0) low ≡ true → lt_z (pos 0) high ≡ false → Beside c.grid d p i → B ≡ tip_of (face_of c d i).low low (behind_at c fluid d (At p)))
-      × (lt_z (pos 0) low ≡ false → lt_z (pos 0) high ≡ true → Beside c.grid d (i + stride_of c.grid d) p → B ≡ tip_of (face_of c d i).high high (behind_at c fluid d (At p)))
+      → (lt_z (pos 0) low ≡ true → lt_z (pos 0) high ≡ false → Beside c.grid d p i → B ≡ tip_of (face_of c d i).low low (behind_at c fluid d (Some p)))
+      × (lt_z (pos 0) low ≡ false → lt_z (pos 0) high ≡ true → Beside c.grid d (i + stride_of c.grid d) p → B ≡ tip_of (face_of c d i).high high (behind_at c fluid d (Some p)))
   tip_from_neighbour p lateral l =
       let away = behind_away c.grid judged.counted d i p (omega arith) l in
       let tip = tip_extrapolated c fluid d i low high in (

@@ -7,14 +7,13 @@ use native.Mathlib.Omega.{arith}
 use lib.Dec.{T}
 use lib.IntN.{neg_ℤ, pos, ℤ}
 use lib.Signed.{◌≤ℤ◌, lt_z}
+use Rattle.std.specs.Prelude.{Option, Some, None}
 use Rattle.whole.specs.Sum.{only}
 use Rattle.whole.specs.Inner.{Abs, In}
 use Rattle.whole.proofs.RangeLaws.{leaf, ranges, within}
 use Rattle.whole.proofs.SearchLaws.{holds, true_is}
 use Rattle.whole.proofs.SumLaws.{only_abs, only_zero}
 use Rattle.grid.specs.declared.Grid.{Grid}
-use Rattle.grid.specs.declared.place.Neighbour.{Neighbour}
-use Rattle.grid.specs.declared.place.Neighbour.TheVariants.{At, Outside}
 use Rattle.grid.specs.Place.{behind_of, blocks_of, next_of, place_of, stride_of}
 use Rattle.grid.specs.Units.{above, next_row}
 use Rattle.grid.proofs.PlaceLaws.{behind_inside}
@@ -76,11 +75,11 @@ module _ (c : Case) (judged : Judged c) (fluid d : ℕ) where
       go zero = within (search (ranges, leaf h.column_width) depth 20) tt tt
       go (suc d) = within (search (ranges, leaf h.row_width) depth 20) tt tt
 
-  pub behind_in : (there : Neighbour) → ((p : ℕ) → there ≡ At p → p < blocks_of c.grid) → BehindIn (behind_at c fluid d there)
-  behind_in (At p) inside =
+  pub behind_in : (there : Option ℕ) → ((p : ℕ) → there ≡ Some p → p < blocks_of c.grid) → BehindIn (behind_at c fluid d there)
+  behind_in (Some p) inside =
       let l = inside p refl in
       record { width = along_in p l; thickness = in_fluid_in (waters_of c.grid c.slots p) fluid (waters_thick c.grid c.slots (slotted c judged) p l) }
-  behind_in Outside inside = nobody_in
+  behind_in None inside = nobody_in
 
   pub tip_behind_in : (i : ℕ) (low high : ℤ) → i + stride_of c.grid d < blocks_of c.grid → BehindIn (tip_behind_of c fluid d i low high)
   unfolding tip_behind_of

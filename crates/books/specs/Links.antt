@@ -1,10 +1,8 @@
 -- What a link carries (document 01, "A lateral face", "Leakage, river and sea"), in litres a day. The link (d, i) joins block i, its low side,
 -- to block i + stride d, its high side.
-use Rattle.std.specs.Prelude.{Bool, cond, false, true, List, ◌+◌, suc, zero, ℕ, eqb, pos, ℤ}
+use Rattle.std.specs.Prelude.{Bool, cond, false, true, List, ◌+◌, suc, zero, ℕ, eqb, pos, ℤ, Option, Some, None}
 use Rattle.std.specs.Int.Signed.{lt_z}
 use Rattle.grid.specs.declared.Grid.{Grid}
-use Rattle.grid.specs.declared.place.Neighbour.{Neighbour}
-use Rattle.grid.specs.declared.place.Neighbour.TheVariants.{At, Outside}
 use Rattle.grid.specs.Place.{behind_of, stride_of}
 use Rattle.grid.specs.Units.{above}
 use Rattle.slots.specs.Slots.{block_of}
@@ -35,9 +33,9 @@ abbrev pub nobody : Behind
 nobody = record { width = pos 0; thickness = pos 0 }
 
 -- "If p is outside, inactive or without the fluid, B = 0."
-abbrev pub behind_at : Case → ℕ → ℕ → Neighbour → Behind
-behind_at c fluid d (At p) = record { width = along_of c d p; thickness = in_fluid (waters_of c.grid c.slots p) fluid }
-behind_at c fluid d Outside = nobody
+abbrev pub behind_at : Case → ℕ → ℕ → Option ℕ → Behind
+behind_at c fluid d (Some p) = record { width = along_of c d p; thickness = in_fluid (waters_of c.grid c.slots p) fluid }
+behind_at c fluid d None = nobody
 
 -- "Only block a holds it: let p be the block on a's other side." The thicknesses are those of the fluid on the low and the high side.
 unfoldable pub tip_behind_of : Case → ℕ → ℕ → ℕ → ℤ → ℤ → Behind

@@ -4,7 +4,7 @@ use Rattle.whole.specs.Search.{first_of}
 use Rattle.grid.specs.declared.Grid.{Grid}
 use Rattle.grid.specs.Place.{blocks_of, top_of}
 use Rattle.slots.specs.Slots.{block_of}
-use Rattle.slices.specs.declared.Refusal.{Refusal}
+use Rattle.slices.specs.Refusals.{Refusal}
 use Rattle.slices.specs.Slices.{Case, blaming}
 use Rattle.block.specs.declared.Fluids.{Fluids}
 use Rattle.block.specs.declared.geometry.Levels.{Levels}

@@ -26,7 +26,7 @@ use flow::lateral::{Behind, Side, lateral};
 use flow::leakage::{LeakageSide, leakage, lowermost, uppermost};
 use flow::litres::over_area;
 use grid::Grid;
-use grid::place::{Neighbour, Place, behind, place_of, stride};
+use grid::place::{Place, behind, place_of, stride};
 use grid::units::ABOVE;
 use slots::load;
 use wellformed::links::is_live;
@@ -75,11 +75,11 @@ fn behind_side(
 {
     let found = behind(g, block, axis, low);
     match found {
-        Neighbour::At(p) => Behind {
+        Some(p) => Behind {
             width: along(columns, rows, place_of(g, p), axis),
             thickness: in_fluid(pair(waters, p), fluid),
         },
-        Neighbour::Outside => NOBODY,
+        None => NOBODY,
     }
 }
 

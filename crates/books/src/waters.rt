@@ -1,5 +1,6 @@
 // The waters of a case's blocks, in ticks (document 01, "One block"). A row of thicknesses is worked out once, and every flow reads it.
 ghost use Rattle.std.specs.Prelude.{◌≡◌, ◌*◌, ◌≤◌, ◌<◌, length};
+ghost use Rattle.whole.specs.Search.{found_of};
 ghost use Rattle.grid.specs.Place.{blocks_of};
 ghost use Rattle.slots.specs.Inner.{Ends};
 ghost use Rattle.block.specs.Inner.{Levelled, Thick, levels_on};
@@ -67,18 +68,18 @@ pub fn is_dry_at(g: Grid, slots: &[i64], waters: &[i64], block: usize) -> bool
     false
 }
 
-// 13: "a table is asked for with a dry well": the first block at fault, counted from 1, or 0. Inner: the slots are in range and the row holds
-// their thicknesses.
-pub fn first_dry(g: Grid, slots: &[i64], waters: &[i64]) -> usize
+// 13: "a table is asked for with a dry well": the first block at fault, counted from 1. Inner: the slots are in range and the row holds their
+// thicknesses.
+pub fn first_dry(g: Grid, slots: &[i64], waters: &[i64]) -> Option<usize>
     requires slotted { Slotted g slots.now }
     requires watered { Watered g slots.now waters.now }
-    ensures { result ≡ dry_of g slots.now }
+    ensures { result ≡ found_of (dry_of g slots.now) }
 {
     let total = blocks(g);
     for block in 0..total {
         if is_dry_at(g, slots, waters, block) {
-            return block + 1;
+            return Some(block + 1);
         }
     }
-    0
+    None
 }

@@ -18,7 +18,13 @@ use Rattle.grid.specs.Inner.{Counted}
 use Rattle.grid.specs.Place.{blocks_of}
 use Rattle.grid.specs.Units.{most_blocks}
 use Rattle.slots.proofs.SlotsLaws.{SameTo}
-use Rattle.slices.specs.declared.Refusal.{Refusal}
+use Rattle.std.specs.Prelude.{Err, None, Ok, Option, Result, Some}
+use Rattle.whole.specs.Search.{found_of}
+use Rattle.slices.specs.declared.refusal.Refusal.TheVariants.{DryWell, Marks}
+use Rattle.slices.proofs.SlicesLaws.{unless_alone}
+use Rattle.slices.specs.declared.refusal.Refusal.{Refusal as Refused}
+use Rattle.slices.specs.Refusals.{Refusal, block_of as named_by, number_of}
+use Rattle.slices.proofs.SlicesLaws.{refused_same, refused_some}
 use Rattle.slices.specs.Slices.{Case, blaming, contents_of, first_refusal, lent_of, none, or_else, refusal, shape_of, unless}
 use Rattle.slices.proofs.SlicesLaws.{by_block, by_one, by_test, first_append, first_goes_on, first_stays, given_same, names_blames}
 use Rattle.block.specs.Fluids.{fresh, salt}
@@ -31,9 +37,10 @@ use Rattle.books.specs.Waters.{dry_at, dry_of, well_checks}
 use Rattle.zone.specs.declared.lines.Lines.{Lines}
 use Rattle.zone.specs.Zones.{marked_of}
 use Rattle.zone.proofs.LinesLaws.{lines_of_same, lines_same, lines_told}
-use Rattle.budget.specs.declared.Answer.{Answer}
+use Rattle.budget.specs.Answers.{Answer}
 use Rattle.budget.specs.Meaning.{TableRefused, Tells, eleven, read_of, slices, thirteen}
-use Rattle.budget.specs.Answers.{case_refusal, eighteen_of, everywhere, layer_answer, layer_zone, no_lines, refusing, tabled, whole_answer}
+use Rattle.budget.specs.declared.Answer.{Answer as Given}
+use Rattle.budget.specs.Answers.{answer_in, answer_of, refusal_of, case_refusal, eighteen_of, everywhere, layer_answer, layer_zone, marks_hold, no_lines, refusing, table_checks, tabled, whole_answer}
 use Rattle.budget.specs.Inner.{flat_of, mark_of, marks_of, table_to}
 use Rattle.budget.specs.Table.{row_of}
 
@@ -187,3 +194,57 @@ module _ (c : Case) (reaches hold : Bool) where
 pub case_refused_exactly : (c : Case) (number block : ℕ) → number ≢ 0 → (case_refusal c ≡ refusal number block) ↔ TableRefused c true true number block
 unfolding lent_of shape_of contents_of limits_of first_refusal or_else
 case_refused_exactly c number block some = table_refused_exactly c true true number block some
+
+-- ---- of what a function's result is
+
+-- judged run by run: a refusal of the first run stays, and where it refuses nothing the second decides
+module _ (xs ys : List Refusal) (lines : List ℤ) where
+  pub answer_stays : (e : Refused) → refusal (number_of e) (named_by e) ≡ first_refusal xs → answer_in (Err e) ≡ tabled (first_refusal (xs ++ ys)) lines
+  answer_stays e told = tabled_stays xs ys (refusal (number_of e) (named_by e)) lines told (refused_some e)
+
+  pub answer_goes_on : none ≡ first_refusal xs → tabled (first_refusal ys) lines ≡ tabled (first_refusal (xs ++ ys)) lines
+  answer_goes_on told = tabled_goes_on xs ys none lines told refl
+
+-- and two results with one answer are one
+pub results_one : (r s : Result (List ℤ) Refused) → answer_in r ≡ answer_in s → r ≡ s
+results_one (Ok x) (Ok y) e = ap Ok (ap (λ (a : Answer). a.lines) e)
+results_one (Ok x) (Err d) e = absurd (refused_some d (sym (ap (λ (a : Answer). a.refusal.number) e)))
+results_one (Err d) (Ok y) e = absurd (refused_some d (ap (λ (a : Answer). a.refusal.number) e))
+results_one (Err c) (Err d) e = ap Err (refused_same c d (ap (λ (a : Answer). a.refusal.number) e) (ap (λ (a : Answer). a.refusal.block) e))
+
+-- and two public answers that say the same are one
+pub answers_one : (a b : Given) → answer_of a ≡ answer_of b → a ≡ b
+answers_one a b e =
+    let refusals = go a.refusal b.refusal (ap (λ (x : Answer). x.refusal) e) in
+    λ k. record { refusal = refusals k; lines = (e k).lines }
+  where
+    go : (r s : Option Refused) → refusal_of r ≡ refusal_of s → r ≡ s
+    go None None e = refl
+    go None (Some d) e = absurd (refused_some d (sym (ap (λ (r : Refusal). r.number) e)))
+    go (Some d) None e = absurd (refused_some d (ap (λ (r : Refusal). r.number) e))
+    go (Some c) (Some d) e = ap Some (refused_same c d (ap (λ (r : Refusal). r.number) e) (ap (λ (r : Refusal). r.block) e))
+
+-- ---- step by step
+
+pub dry_found : (c : Case) (b : ℕ) (lines : List ℤ) → found_of (dry_of c.grid c.slots) ≡ Some b → answer_in (Err (DryWell b)) ≡ tabled (first_refusal (well_checks c)) lines
+dry_found c b lines e = go (dry_of c.grid c.slots) e
+  where
+    go : (n : ℕ) → found_of n ≡ Some b → answer_in (Err (DryWell b)) ≡ tabled (first_refusal (blaming 13 n ∷ [])) lines
+    go zero e = cc
+    go (suc n) e =
+        let same : suc n ≡ b = cc in
+        rw (← same) (dry_tabled (suc n) lines (omega arith))
+
+pub dry_nowhere : (c : Case) (lines given : List ℤ) → found_of (dry_of c.grid c.slots) ≡ None → given ≡ lines → answer_in (Ok given) ≡ tabled (first_refusal (well_checks c)) lines
+dry_nowhere c lines given e told = ap (λ (z : List ℤ). answer_in (Ok z)) told ∙ go (dry_of c.grid c.slots) e
+  where
+    go : (n : ℕ) → found_of n ≡ None → answer_in (Ok lines) ≡ tabled (first_refusal (blaming 13 n ∷ [])) lines
+    go zero e = wet_tabled zero lines (omega arith)
+    go (suc n) e = cc
+
+module _ (c : Case) (marks lines : List ℤ) where
+  pub marks_fail : marks_hold c.grid marks ≡ false → answer_in (Err Marks) ≡ tabled (first_refusal (table_checks c marks)) lines
+  marks_fail e = answer_stays (unless 11 (marks_hold c.grid marks) ∷ []) (well_checks c) lines Marks (ap (unless 11) (sym e) ∙ unless_alone 11 (marks_hold c.grid marks) (omega arith))
+
+  pub marks_pass : marks_hold c.grid marks ≡ true → tabled (first_refusal (well_checks c)) lines ≡ tabled (first_refusal (table_checks c marks)) lines
+  marks_pass e = answer_goes_on (unless 11 (marks_hold c.grid marks) ∷ []) (well_checks c) lines (ap (unless 11) (sym e) ∙ unless_alone 11 (marks_hold c.grid marks) (omega arith))

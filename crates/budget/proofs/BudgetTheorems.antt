@@ -21,7 +21,7 @@ use Rattle.slots.proofs.SlotsLaws.{SameTo}
 use Rattle.slices.specs.Slices.{Case, refusal, unless}
 use Rattle.slices.specs.Meaning.{NamesFirst}
 use Rattle.slices.specs.Inner.{Roomy}
-use Rattle.slices.specs.declared.Refusal.{Refusal}
+use Rattle.slices.specs.Refusals.{Refusal}
 use Rattle.slices.proofs.SlicesLaws.{here, holds_among, none_apart, none_together, unless_passes}
 use Rattle.block.specs.Fluids.{fresh, salt}
 use Rattle.wellformed.specs.Inner.{WellFormed}
@@ -44,7 +44,7 @@ use Rattle.zone.specs.Table.{lines_of}
 use Rattle.zone.specs.Zones.{in_zone, marked_of}
 use Rattle.zone.proofs.LinesLaws.{lines_same}
 use Rattle.zone.proofs.ZoneTheorems.{adds, closes, conversions_cancel, edges_not_negative, error_bounded, fresh_boundary_not_positive, whole_no_edges}
-use Rattle.budget.specs.declared.Answer.{Answer}
+use Rattle.budget.specs.Answers.{Answer}
 use Rattle.budget.specs.Meaning.{TableRefused, Tells, read_of, slices, thirteen}
 use Rattle.budget.specs.Answers.{case_refusal, eighteen_of, everywhere, layer_answer, layer_zone, marks_hold, marks_reach, table_checks, whole_answer, zone_answer, zone_refusal}
 use Rattle.budget.proofs.AnswersLaws.{case_refused_exactly, read_lines, table_refused_exactly}

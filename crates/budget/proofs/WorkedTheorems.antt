@@ -35,7 +35,7 @@ use Rattle.zone.specs.Exchange.{changes, converted_at, edge_of, edges_of}
 use Rattle.zone.specs.Holdings.{own_in, settled_of}
 use Rattle.zone.specs.Table.{lines_by}
 use Rattle.zone.specs.Zones.{in_zone, marked_of}
-use Rattle.budget.specs.declared.Answer.{Answer}
+use Rattle.budget.specs.Answers.{Answer}
 use Rattle.budget.specs.Answers.{eighteen_of, layer_answer, layer_zone, whole_answer, zone_answer}
 use Rattle.budget.specs.Table.{row_of}
 

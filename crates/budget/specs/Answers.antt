@@ -1,16 +1,17 @@
 -- The table that a client is answered, and what it is refused with (document 01, "Refusal numbers").
-use Rattle.std.specs.Prelude.{Bool, true, List, ◌++◌, ◌∷◌, ◌+◌, ℕ, eqb, leb, pos, ℤ, length, replicate}
+use Rattle.budget.specs.declared.Answer.{Answer as Given}
+use Rattle.std.specs.Prelude.{Bool, true, Err, List, None, Ok, Option, Result, Some, ◌++◌, ◌∷◌, ◌+◌, ℕ, eqb, leb, pos, ℤ, length, replicate}
 use Rattle.whole.specs.Ranges.{all_within, between}
 use Rattle.grid.specs.declared.Grid.{Grid}
 use Rattle.grid.specs.Place.{blocks_of, place_of}
-use Rattle.slices.specs.declared.Refusal.{Refusal}
-use Rattle.slices.specs.Slices.{Case, first_refusal, unless, unless_refused}
+use Rattle.slices.specs.declared.refusal.Refusal.{Refusal as Refused}
+use Rattle.slices.specs.Refusals.{Refusal, block_of, number_of}
+use Rattle.slices.specs.Slices.{Case, first_refusal, none, refusal, unless, unless_refused}
 use Rattle.block.specs.Fluids.{fresh, salt}
 use Rattle.wellformed.specs.Limits.{checks_of, lent_checks_of}
 use Rattle.books.specs.Waters.{well_checks}
 use Rattle.zone.specs.Table.{lines_of}
 use Rattle.zone.specs.Zones.{marked_of}
-use Rattle.budget.specs.declared.Answer.{Answer}
 use Rattle.budget.specs.Table.{row_of}
 
 -- ---- refusals
@@ -52,12 +53,30 @@ everywhere i = true
 unfoldable pub eighteen_of : Case → (ℕ → Bool) → List ℤ
 eighteen_of c z = row_of (lines_of c z fresh) ++ row_of (lines_of c z salt)
 
+-- a refusal, or lines beside number 0
+pub record Answer : Type 0 where
+  pub refusal : Refusal
+  pub lines : List ℤ
+
 -- what stands beside a refusal, and a refusal with that
 abbrev pub no_lines : List ℤ
 no_lines = replicate 18 (pos 0)
 
 abbrev pub refusing : Refusal → Answer
 refusing r = record { refusal = r; lines = no_lines }
+
+-- what the function's result says of both
+abbrev pub answer_in : Result (List ℤ) Refused → Answer
+answer_in (Ok lines) = record { refusal = none; lines = lines }
+answer_in (Err e) = refusing (refusal (number_of e) (block_of e))
+
+-- what the public answer says of both
+abbrev pub refusal_of : Option Refused → Refusal
+refusal_of None = none
+refusal_of (Some e) = refusal (number_of e) (block_of e)
+
+abbrev pub answer_of : Given → Answer
+answer_of a = record { refusal = refusal_of a.refusal; lines = a.lines }
 
 -- a refusal, or lines beside none
 abbrev pub tabled : Refusal → List ℤ → Answer

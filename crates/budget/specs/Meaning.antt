@@ -8,7 +8,7 @@ use Rattle.wellformed.specs.Inner.{WellFormed}
 use Rattle.books.specs.Waters.{Wet, dry_at}
 use Rattle.zone.specs.declared.lines.Lines.{Lines}
 use Rattle.zone.specs.Table.{lines_of}
-use Rattle.budget.specs.declared.Answer.{Answer}
+use Rattle.budget.specs.Answers.{Answer}
 
 -- the nine lines of a fluid, read from the eighteen of an answer
 unfoldable pub read_of : Answer → ℕ → Lines

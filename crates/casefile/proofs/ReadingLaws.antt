@@ -1,6 +1,6 @@
 -- Laws of the whole reading: a case that was read is judged, what follows a refusal and a run, and what every answer is. Assumes nothing.
 use mathlib.Core.Bool.{Bool, ◌&&◌, false, not, true}
-use mathlib.Core.List.{List, [], ◌++◌, ◌∷◌}
+use mathlib.Core.List.{List, [], ◌++◌, ◌∷◌, append-nil}
 use mathlib.Core.Path.{◌∙◌, ◌≡◌, ap, ap₂, refl, sym}
 use Prim.Native.Nat.{◌*◌, ◌<◌, ◌≤◌, suc, zero, ℕ}
 use native.Mathlib.Decide.{ℕ_discrete}
@@ -8,8 +8,7 @@ use native.Mathlib.Nat.{le_of_eq}
 use native.Mathlib.Omega.{arith}
 use lib.Dec.{T, leb}
 use lib.IntN.{pos, ℤ}
-use lib.ListN.{drop, get_or, length, take}
-use lib.Seq.{take_at}
+use lib.ListN.{drop_of_length-le, get_or, length}
 use borrow.Author.Tests.{eq-eqb, ne_eqb}
 use Rattle.whole.specs.Lent.{over}
 use Rattle.whole.specs.Ranges.{all_within, between, in_range}
@@ -26,21 +25,21 @@ use Rattle.grid.proofs.JudgingLaws.{counted_counts, density_weighed, termed_term
 use Rattle.slots.specs.Rules.{slots_hold}
 use Rattle.slots.specs.Slots.{part_of}
 use Rattle.slots.specs.Units.{slots_each}
-use Rattle.slices.specs.declared.Refusal.{Refusal}
+use Rattle.slices.specs.declared.refusal.Refusal.{Refusal as Fault}
+use Rattle.slices.specs.Refusals.{Refusal, refusal_in}
+use Rattle.std.specs.Prelude.{IfOk, Result, Ok, Err}
 use Rattle.slices.specs.Slices.{Case, blaming, case_of, contents_of, fault_of, first_refusal, most_width, none, or_else, refusal, room_holds, shape_of, slots_fail, unless, widths_hold}
 use Rattle.slices.specs.Inner.{Judged, Roomy, judged_of}
-use Rattle.slices.proofs.SlicesLaws.{contents_pass, here, judged_stands, later, none_among, none_refused, none_together, or_first, or_next, shape_passes}
+use Rattle.slices.proofs.SlicesLaws.{contents_pass, here, judged_stands, later, none_among, none_refused, none_together, or_first, or_next, refused_some, shape_passes}
 use Rattle.wellformed.specs.Limits.{checked_of, checks_of, first_at_fault, limits_of}
 use Rattle.fields.specs.declared.Part.{Part}
 use Rattle.fields.specs.declared.Part.TheVariants.{Counts, Density, Terms, Widths}
-use Rattle.fields.specs.declared.runs.Run.{Run}
-use Rattle.fields.specs.declared.runs.Run.TheVariants.{Done, Refused}
 use Rattle.fields.specs.Inner.{Within}
-use Rattle.fields.specs.Fields.{ends_of, record_range}
-use Rattle.fields.specs.Runs.{ending_of, fill_of}
-use Rattle.fields.proofs.FilledLaws.{Early, Numbered, Telling, blocks_before, blocks_hold, blocks_length, blocks_telling, done_before, done_numbered, done_telling, early_numbered, ended_done, fill_of_length, fill_of_numbered, fill_of_telling, fill_within, number_in, terms_sent, widths_sent}
+use Rattle.fields.specs.Fields.{ends_of, record_range, refusal_of}
+use Rattle.fields.specs.Runs.{Done, Filled, Refused, Run, blocks_from, ending_of, fill_of}
+use Rattle.fields.proofs.FilledLaws.{Early, Numbered, Telling, counts_sent, blocks_before, blocks_hold, blocks_length, blocks_stay, blocks_telling, done_before, done_numbered, done_telling, early_numbered, ended_done, fill_of_length, fill_of_numbered, fill_of_telling, fill_of_whole, fill_within, number_in, terms_sent, widths_sent}
 use Rattle.casefile.specs.Reading.{Read, giving, after, after_counts, after_density, body_of, case_from, columns_from, counted_of, end_checks, judging, reading_of, refusing, rows_from, slots_from, termed_of, weighed_of}
-use Rattle.casefile.specs.Inner.{stored_of}
+use Rattle.casefile.specs.Inner.{Follows, counts_at, density_at, stored_of, terms_at}
 
 -- ---- a case that was read
 
@@ -167,20 +166,20 @@ body_telling Tells early g file at =
 pub body_done : (g : Grid) (file : List ℕ) (at : ℕ) → (ending_of (slots_from g file at).run file).number ≡ 0 → (next : ℕ) × ((slots_from g file at).run ≡ Done next)
 body_done g file at = ended_done (slots_from g file at).run file (body_telling (λ n. n ≡ 0 → ⊥) early_numbered g file at)
 
--- what such a run left over the front of three slices is the case that was read
-pub body_case : (g : Grid) (file : List ℕ) (at next : ℕ) (c r s : List ℤ) → (slots_from g file at).run ≡ Done next →
-    case_of g (take g.columns (over (columns_from g file at).values c)) (take g.rows (over (rows_from g file at).values r)) (take (slots_each * blocks_of g) (over (slots_from g file at).values s))
-    ≡ case_from g file at
+-- values that fill a slice to its end
+over_whole : (values l : List ℤ) → length values ≡ length l → over values l ≡ values
+over_whole values l e = rw (drop_of_length-le l {i = length values} (omega arith)) (append-nil values)
+
+-- what such a run left over three slices that it filled is the case that was read
+pub body_case : (g : Grid) (file : List ℕ) (at next : ℕ) (c r s : List ℤ) → length c ≡ g.columns → length r ≡ g.rows → length s ≡ slots_each * blocks_of g → (slots_from g file at).run ≡ Done next →
+    case_of g (over (columns_from g file at).values c) (over (rows_from g file at).values r) (over (slots_from g file at).values s) ≡ case_from g file at
 unfolding case_from
-body_case g file at next c r s e =
-    let columns = (columns_from g file at).values in
-    let rows = (rows_from g file at).values in
-    let slots = (slots_from g file at).values in
+body_case g file at next c r s columns rows slots e =
     let sizes = body_lengths g file at next e in
     λ i. case_of g
-    (take_at columns (drop (length columns) c) g.columns sizes.0 i)
-    (take_at rows (drop (length rows) r) g.rows sizes.1.0 i)
-    (take_at slots (drop (length slots) s) (slots_each * blocks_of g) sizes.1.1 i)
+    (over_whole (columns_from g file at).values c (sizes.0 ∙ sym columns) i)
+    (over_whole (rows_from g file at).values r (sizes.1.0 ∙ sym rows) i)
+    (over_whole (slots_from g file at).values s (sizes.1.1 ∙ sym slots) i)
 
 -- ---- what follows a refusal, and a run
 
@@ -194,6 +193,21 @@ pub judging_goes_on : (r s : Refusal) (more : Read) → r ≡ s → r.number ≡
 unfolding judging
 judging_goes_on r s more e h = rw (← e, eq-eqb r.number 0 h) refl
 
+-- the same of what the functions refuse with, and of none
+pub judging_refused : (e : Fault) (s : Refusal) (more : Read) → refusal_of e ≡ s → judging s more ≡ refusing (refusal_of e)
+judging_refused e s more told = judging_stays (refusal_of e) s more told (refused_some e)
+
+pub judging_passed : (s : Refusal) (more : Read) → none ≡ s → judging s more ≡ more
+judging_passed s more told = judging_goes_on none s more told refl
+
+pub stored_refused : (c : Case) (e : Fault) → refusal_of e ≡ first_refusal (limits_of c) → stored_of c ≡ refusing (refusal_of e)
+unfolding stored_of
+stored_refused c e told = judging_refused e (first_refusal (limits_of c)) (giving c) told
+
+pub stored_passed : (c : Case) → none ≡ first_refusal (limits_of c) → stored_of c ≡ giving c
+unfolding stored_of
+stored_passed c told = judging_passed (first_refusal (limits_of c)) (giving c) told
+
 -- the end of the run is judged first, and where it is none the case is
 pub body_stays : (g : Grid) (file : List ℕ) (at : ℕ) (r : Refusal) → r ≡ ending_of (slots_from g file at).run file → (r.number ≡ 0 → ⊥) → body_of g file at ≡ refusing r
 unfolding body_of end_checks first_refusal
@@ -202,6 +216,33 @@ body_stays g file at r e h = judging_stays r _ _ (e ∙ sym (or_first _ (first_r
 pub body_goes_on : (g : Grid) (file : List ℕ) (at : ℕ) → (ending_of (slots_from g file at).run file).number ≡ 0 → body_of g file at ≡ stored_of (case_from g file at)
 unfolding body_of end_checks first_refusal stored_of
 body_goes_on g file at z = ap (λ r. judging r (giving (case_from g file at))) (or_next (ending_of (slots_from g file at).run file) (first_refusal (limits_of (case_from g file at))) z)
+
+-- the run over a file's body, where that over the columns or the rows is refused
+module _ (g : Grid) (file : List ℕ) (at : ℕ) where
+  pub rows_refused : (r : Refusal) → Refused r ≡ (rows_from g file at).run → Refused r ≡ (slots_from g file at).run
+  unfolding blocks_from
+  rows_refused r e = e ∙ sym (ap (λ (f : Filled). f.run) (blocks_stay (rows_from g file at).run g file 0 r (sym e) (blocks_of g) (omega arith)))
+
+  pub columns_refused : (r : Refusal) → Refused r ≡ (columns_from g file at).run → Refused r ≡ (slots_from g file at).run
+  unfolding fill_of
+  columns_refused r e = rows_refused r (ap (λ (run : Run). (fill_of run Widths file g.rows).run) e)
+
+  -- what then is answered
+  pub body_refused : (e : Fault) → Refused (refusal_of e) ≡ (slots_from g file at).run → body_of g file at ≡ refusing (refusal_of e)
+  unfolding ending_of
+  body_refused e told = body_stays g file at (refusal_of e) (rw (← told) refl) (refused_some e)
+
+  -- and what a body that was read to its end is answered with, by what 8 says
+  pub body_ended : {A : Type 0} (next : ℕ) (c : Case) (q : Result A Fault) → Done next ≡ (slots_from g file at).run → c ≡ case_from g file at → refusal_in q ≡ ending_of (Done next) file → Follows q (body_of g file at) (λ (_ : A). stored_of c)
+  body_ended next c (Ok x) done same told =
+      let none_left : (ending_of (slots_from g file at).run file).number ≡ 0 = rw (← done) (ap (λ (r : Refusal). r.number) (sym told)) in
+      rw same (body_goes_on g file at none_left)
+  body_ended next c (Err e) done same told = body_stays g file at (refusal_of e) (rw (← done) told) (refused_some e)
+
+  -- then it is judged
+  pub body_stands : {A : Type 0} (next : ℕ) (c : Case) (q : Result A Fault) → Counted g → Termed g → Done next ≡ (slots_from g file at).run → c ≡ case_from g file at → IfOk q (λ (_ : A). Judged c)
+  body_stands next c (Ok x) counted termed done same = rw same (case_judged g file at next counted termed (sym done))
+  body_stands next c (Err e) counted termed done same = tt
 
 -- a run that is refused ends the reading, and one that is done lets it go on
 pub after_refused : (run : Run) (r : Refusal) (more : ℕ → Read) → run ≡ Refused r → after run more ≡ refusing r
@@ -212,47 +253,66 @@ pub after_done : (run : Run) (at : ℕ) (more : ℕ → Read) → run ≡ Done a
 unfolding after
 after_done run at more e = rw e refl
 
+-- a run that is done left just what it read in a slice that it filled: of the counts, of δ and the weights, and of the terms
+abbrev three : List ℤ
+three = pos 0 ∷ pos 0 ∷ pos 0 ∷ []
+
+module _ (file : List ℕ) (next : ℕ) (out : List ℤ) where
+  pub counts_left : Done next ≡ (fill_of (Done 0) Counts file counts).run → out ≡ over (counts_at file) three → (out ≡ counts_at file) × Within Counts counts out
+  counts_left done e =
+      let left = e ∙ fill_of_whole (Done 0) Counts file counts next three refl (sym done) in
+      (left, rw left (fill_within Counts counts_sent file (Done 0) counts next (sym done)))
+
+  module _ (at : ℕ) where
+    pub density_left : Done next ≡ (fill_of (Done at) Density file density).run → out ≡ over (density_at file at) three → out ≡ density_at file at
+    density_left done e = e ∙ fill_of_whole (Done at) Density file density next three refl (sym done)
+
+    pub terms_left : Done next ≡ (fill_of (Done at) Terms file terms).run → out ≡ over (terms_at file at) three → (out ≡ terms_at file at) × Within Terms terms out
+    terms_left done e =
+        let left = e ∙ fill_of_whole (Done at) Terms file terms next three refl (sym done) in
+        (left, rw left (fill_within Terms terms_sent file (Done at) terms next (sym done)))
+
 -- what follows δ and the weights, by the run over the terms
-pub terms_refused : (g : Grid) (file : List ℕ) (at : ℕ) (run : Run) (r : Refusal) → run ≡ (fill_of (Done at) Terms file terms).run → run ≡ Refused r → after_density g file at ≡ refusing r
-unfolding after_density
-terms_refused g file at run r e h = let f = fill_of (Done at) Terms file terms in after_refused f.run r _ (sym e ∙ h)
+module _ (g : Grid) (file : List ℕ) (at : ℕ) where
+  pub terms_refused : (r : Refusal) → Refused r ≡ (fill_of (Done at) Terms file terms).run → after_density g file at ≡ refusing r
+  unfolding after_density
+  terms_refused r e = after_refused (fill_of (Done at) Terms file terms).run r _ (sym e)
 
-pub terms_done : (g h : Grid) (file : List ℕ) (at next : ℕ) (run : Run) → run ≡ (fill_of (Done at) Terms file terms).run → run ≡ Done next → h ≡ termed_of g (fill_of (Done at) Terms file terms).values → after_density g file at ≡ body_of h file next
-unfolding after_density
-terms_done g h file at next run e d s = let f = fill_of (Done at) Terms file terms in after_done f.run next (body_of (termed_of g f.values) file) (sym e ∙ d) ∙ ap (λ k. body_of k file next) (sym s)
+  pub terms_done : (h : Grid) (next : ℕ) → Done next ≡ (fill_of (Done at) Terms file terms).run → h ≡ termed_of g (terms_at file at) → after_density g file at ≡ body_of h file next
+  unfolding after_density
+  terms_done h next d s = after_done (fill_of (Done at) Terms file terms).run next (body_of (termed_of g (terms_at file at)) file) (sym d) ∙ ap (λ k. body_of k file next) (sym s)
 
--- what follows the counts, by the run over δ and the weights
-pub density_refused : (g : Grid) (file : List ℕ) (at : ℕ) (run : Run) (r : Refusal) → run ≡ (fill_of (Done at) Density file density).run → run ≡ Refused r → after_counts g file at ≡ refusing r
-unfolding after_counts
-density_refused g file at run r e h = after_refused (fill_of (Done at) Density file density).run r _ (sym e ∙ h)
-
-module _ (g h : Grid) (file : List ℕ) (at next : ℕ) (run : Run) (told : run ≡ (fill_of (Done at) Density file density).run) (done : run ≡ Done next) (same : h ≡ weighed_of g (fill_of (Done at) Density file density).values) where
-  density_done : after_counts g file at ≡ judging (unless 4 (density_holds h)) (after_density h file next)
+  -- what follows the counts, by the run over δ and the weights
+  pub density_refused : (r : Refusal) → Refused r ≡ (fill_of (Done at) Density file density).run → after_counts g file at ≡ refusing r
   unfolding after_counts
-  density_done =
-      let f = fill_of (Done at) Density file density in
-      let more : Grid → ℕ → Read = λ k next. judging (unless 4 (density_holds k)) (after_density k file next) in
-      after_done f.run next (more (weighed_of g f.values)) (sym told ∙ done) ∙ ap (λ k. more k next) (sym same)
+  density_refused r e = after_refused (fill_of (Done at) Density file density).run r _ (sym e)
 
-  -- 4 where they are out of range, and otherwise what follows them
-  pub density_fails : density_holds h ≡ false → after_counts g file at ≡ refusing (refusal 4 0)
-  density_fails e = density_done ∙ judging_stays (refusal 4 0) (unless 4 (density_holds h)) (after_density h file next) (rw e refl) (omega arith)
+  module _ (h : Grid) (next : ℕ) (done : Done next ≡ (fill_of (Done at) Density file density).run) (same : h ≡ weighed_of g (density_at file at)) where
+    density_done : after_counts g file at ≡ judging (unless 4 (density_holds h)) (after_density h file next)
+    unfolding after_counts
+    density_done =
+        let more : Grid → ℕ → Read = λ k next. judging (unless 4 (density_holds k)) (after_density k file next) in
+        after_done (fill_of (Done at) Density file density).run next (more (weighed_of g (density_at file at))) (sym done) ∙ ap (λ k. more k next) (sym same)
 
-  pub density_passes : density_holds h ≡ true → after_counts g file at ≡ after_density h file next
-  density_passes e = density_done ∙ judging_goes_on none (unless 4 (density_holds h)) (after_density h file next) (rw e refl) refl
+    -- 4 where they are out of range, and otherwise what follows them
+    pub density_fails : false ≡ density_holds h → after_counts g file at ≡ refusing (refusal 4 0)
+    density_fails e = density_done ∙ judging_stays (refusal 4 0) (unless 4 (density_holds h)) (after_density h file next) (rw (← e) refl) (omega arith)
+
+    pub density_passes : true ≡ density_holds h → after_counts g file at ≡ after_density h file next
+    density_passes e = density_done ∙ judging_goes_on none (unless 4 (density_holds h)) (after_density h file next) (rw (← e) refl) refl
 
 -- the whole file, by the run over the counts
-module _ (file : List ℕ) (columns rows slots : List ℤ) (run : Run) (told : run ≡ (fill_of (Done 0) Counts file counts).run) where
-  pub counts_refused : (r : Refusal) → run ≡ Refused r → reading_of file columns rows slots ≡ refusing r
+module _ (file : List ℕ) (columns rows slots : List ℤ) where
+  pub counts_refused : (r : Refusal) → Refused r ≡ (fill_of (Done 0) Counts file counts).run → reading_of file columns rows slots ≡ refusing r
   unfolding reading_of
-  counts_refused r h = after_refused (fill_of (Done 0) Counts file counts).run r _ (sym told ∙ h)
+  counts_refused r e = after_refused (fill_of (Done 0) Counts file counts).run r _ (sym e)
 
-  pub counts_done : (g : Grid) (next : ℕ) → run ≡ Done next → g ≡ counted_of (fill_of (Done 0) Counts file counts).values → reading_of file columns rows slots ≡ judging (first_refusal (shape_of (case_of g columns rows slots))) (after_counts g file next)
+  pub counts_done : (g : Grid) (next : ℕ) → Done next ≡ (fill_of (Done 0) Counts file counts).run → g ≡ counted_of (counts_at file) → reading_of file columns rows slots ≡ judging (first_refusal (shape_of (case_of g columns rows slots))) (after_counts g file next)
   unfolding reading_of
-  counts_done g next h s =
+  counts_done g next d s =
       let f = fill_of (Done 0) Counts file counts in
       let k = counted_of f.values in
-      after_done f.run next (λ at. judging (first_refusal (shape_of (case_of k columns rows slots))) (after_counts k file at)) (sym told ∙ h)
+      after_done f.run next (λ at. judging (first_refusal (shape_of (case_of k columns rows slots))) (after_counts k file at)) (sym d)
       ∙ ap (λ k. judging (first_refusal (shape_of (case_of k columns rows slots))) (after_counts k file next)) (sym s)
 
 -- ---- a file that is not refused

@@ -1,18 +1,27 @@
 -- A case file, read whole (document 01, "The case file"): "Order: columns, rows, layers, δ, flag, step, tolerance, column widths, row widths, then per block ..".
 -- Document 02, W-209: "A δ of 0 in the case now means that two more numbers follow".
-use Rattle.std.specs.Prelude.{List, [], ◌∷◌, ℕ, nat_abs, pos, ℤ, get_or}
+use Rattle.std.specs.Prelude.{List, [], ◌∷◌, ℕ, nat_abs, pos, ℤ, get_or, Result, Ok, Err}
 use Rattle.grid.specs.declared.Grid.{Grid}
 use Rattle.grid.specs.Judging.{density_holds}
 use Rattle.grid.specs.Place.{blocks_of}
 use Rattle.grid.specs.Record.{counts, density, no_grid, only_counts, record_of, terms}
-use Rattle.slices.specs.declared.Refusal.{Refusal}
+use Rattle.slices.specs.declared.refusal.Refusal.{Refusal as Fault}
+use Rattle.slices.specs.Refusals.{Refusal}
 use Rattle.slices.specs.Slices.{Case, case_of, first_refusal, none, shape_of, unless, unless_refused}
 use Rattle.wellformed.specs.Limits.{limits_of}
 use Rattle.fields.specs.declared.Part.TheVariants.{Counts, Density, Terms, Widths}
-use Rattle.fields.specs.declared.runs.Run.{Run}
-use Rattle.fields.specs.declared.runs.Run.TheVariants.{Done, Refused}
-use Rattle.fields.specs.Runs.{Filled, blocks_from, ending_of, fill_of}
-use Rattle.casefile.specs.declared.Answer.{Answer}
+use Rattle.fields.specs.Fields.{refusal_of}
+use Rattle.fields.specs.Runs.{Done, Filled, Refused, Run, blocks_from, ending_of, fill_of}
+
+-- A refusal, or the record of a case beside number 0. The record beside a refusal is all 0.
+pub record Answer : Type 0 where
+  pub refusal : Refusal
+  pub grid : Grid
+
+-- the same as the reader answers with it
+abbrev pub answer_in : Result Grid Fault → Answer
+answer_in (Ok g) = record { refusal = none; grid = g }
+answer_in (Err e) = record { refusal = refusal_of e; grid = no_grid }
 
 -- What a file is answered with: a refusal or the record of a case, and the numbers that go into the front of the lent column widths, row widths and slots.
 pub record Read : Type 0 where

@@ -1,244 +1,219 @@
 // A case file, read into lent slices (document 01, "The case file"): "A file is judged number by number".
 #![tactic(auto)]
 
-ghost use Rattle.std.specs.Prelude.{◌≡◌, ◌≤◌, length, T};
+ghost use Rattle.std.specs.Prelude.{◌≡◌, ◌≤◌, ◌*◌, ℤ, List, length, IfOk, T};
 ghost use Rattle.whole.specs.Lent.{over};
 ghost use Rattle.grid.specs.Inner.{Counted, Termed};
 ghost use Rattle.grid.specs.Judging.{density_holds};
+ghost use Rattle.grid.specs.Place.{blocks_of};
 ghost use Rattle.grid.specs.Record.{counts, density, terms};
-ghost use Rattle.slices.specs.Slices.{case_of};
+ghost use Rattle.slices.specs.Slices.{case_of, first_refusal, shape_of};
 ghost use Rattle.slices.specs.Inner.{Judged, Roomy};
 ghost use Rattle.fields.specs.declared.Part.TheVariants.{Counts, Terms};
 ghost use Rattle.fields.specs.Inner.{Within};
-ghost use Rattle.casefile.specs.Reading.{refusing, counted_of, weighed_of, termed_of, body_of, after_density, after_counts, reading_of};
-ghost use Rattle.casefile.specs.Inner.{stored_of};
+ghost use Rattle.casefile.specs.Reading.{answer_in, judging, counted_of, weighed_of, termed_of, body_of, after_density, after_counts, reading_of};
+ghost use Rattle.casefile.specs.Inner.{Follows, density_at, stored_of, terms_at};
 
-use fields::runs::{Run, ending, fill, fill_blocks};
+use fields::runs::{ended, fill, fill_blocks};
 use fields::{MOST_SLOTS, Part};
 use grid::judging::density_holds;
 use grid::place::blocks;
 use grid::units::MOST_ACROSS;
-use grid::{COUNTS, DENSITY, Grid, NO_GRID, TERMS};
-use slices::{Refusal, shape};
+use grid::{COUNTS, DENSITY, Grid, TERMS};
+use slices::refusal::Refusal;
+use slices::{Case, JudgedCase};
 use slots::units::SLOTS_EACH;
 use wellformed::judge_limits;
 use whole::lent::copy_front;
 
-// A refusal, or the record of a case beside number 0. The record beside a refusal is all 0.
+// The record of a case as far as it was read, and the place after its last number.
 #[derive(Clone, Copy)]
-pub struct Answer {
-    pub refusal: Refusal,
-    pub grid: Grid,
-}
-
-// A refusal beside a record that is all 0.
-fn refused(refusal: Refusal) -> Answer
-    ensures { result ≡ (refusing refusal).answer }
-{
-    Answer {
-        refusal,
-        grid: NO_GRID,
-    }
+struct Head {
+    grid: Grid,
+    next: usize,
 }
 
 // The record of a case by its counts. Inner: they are within their ends.
+#[tactic(auto, unfolding(crate::specs::Reading::counted_of))]
 fn counted(values: &[i64]) -> Grid
     requires counts_in_bounds { counts ≤ length values.now }
     requires within { Within Counts counts values.now }
     ensures { result ≡ counted_of values.now }
 {
-    let mut g = NO_GRID;
-    g.columns = values[0] as usize;
-    g.rows = values[1] as usize;
-    g.layers = values[2] as usize;
-    g
+    Grid {
+        columns: values[0] as usize,
+        rows: values[1] as usize,
+        layers: values[2] as usize,
+        delta: 0,
+        fresh_weight: 0,
+        salt_weight: 0,
+        flag: 0,
+        step: 0,
+        tolerance: 0,
+    }
 }
 
 // The record of a case with δ and the two weights. Inner: there are as many.
-fn weighed(g: Grid, values: &[i64]) -> Grid
+#[tactic(auto, unfolding(crate::specs::Reading::weighed_of))]
+fn weighed(grid: Grid, values: &[i64]) -> Grid
     requires { density ≤ length values.now }
-    ensures { result ≡ weighed_of g values.now }
+    ensures { result ≡ weighed_of grid values.now }
 {
-    let mut h = g;
-    h.delta = values[0];
-    h.fresh_weight = values[1];
-    h.salt_weight = values[2];
-    h
+    Grid {
+        delta: values[0],
+        fresh_weight: values[1],
+        salt_weight: values[2],
+        ..grid
+    }
 }
 
 // The record of a case with its terms. Inner: they are within their ends.
-fn termed(g: Grid, values: &[i64]) -> Grid
+#[tactic(auto, unfolding(crate::specs::Reading::termed_of))]
+fn termed(grid: Grid, values: &[i64]) -> Grid
     requires terms_in_bounds { terms ≤ length values.now }
     requires within { Within Terms terms values.now }
-    ensures { result ≡ termed_of g values.now }
+    ensures { result ≡ termed_of grid values.now }
 {
-    let mut h = g;
-    h.flag = values[0] as u64;
-    h.step = values[1];
-    h.tolerance = values[2];
-    h
-}
-
-// "9, 10", and the numbers of a case that neither refuses over the front of the lent slices. Inner: 3, 7, 4, 5 and 6 do not refuse the case, and the
-// lent slices have room.
-fn store(
-    g: Grid,
-    own_columns: &[i64],
-    own_rows: &[i64],
-    own_slots: &[i64],
-    columns: &mut [i64],
-    rows: &mut [i64],
-    slots: &mut [i64],
-) -> Answer
-    requires judged { Judged (case_of g own_columns.now own_rows.now own_slots.now) }
-    requires own_columns_in_bounds { length own_columns.now ≤ length columns.old }
-    requires own_rows_in_bounds { length own_rows.now ≤ length rows.old }
-    requires own_slots_in_bounds { length own_slots.now ≤ length slots.old }
-    ensures answer { result ≡ (stored_of (case_of g own_columns.now own_rows.now own_slots.now)).answer }
-    ensures columns { columns.new ≡ over (stored_of (case_of g own_columns.now own_rows.now own_slots.now)).columns columns.old }
-    ensures rows { rows.new ≡ over (stored_of (case_of g own_columns.now own_rows.now own_slots.now)).rows rows.old }
-    ensures slots { slots.new ≡ over (stored_of (case_of g own_columns.now own_rows.now own_slots.now)).slots slots.old }
-{
-    let refusal = judge_limits(g, own_columns, own_rows, own_slots);
-    if refusal.number != 0 {
-        return refused(refusal);
-    }
-    copy_front(own_columns, columns);
-    copy_front(own_rows, rows);
-    copy_front(own_slots, slots);
-    Answer {
-        refusal: Refusal {
-            number: 0,
-            block: 0,
-        },
-        grid: g,
+    Grid {
+        flag: values[0] as u64,
+        step: values[1],
+        tolerance: values[2],
+        ..grid
     }
 }
 
-// What follows the terms, read into arrays of its own, and where nothing refuses it over the front of the lent slices. Inner: the record is in range
-// and the lent slices have room.
-fn read_body(
-    file: &[u8],
-    at: usize,
-    g: Grid,
-    columns: &mut [i64],
-    rows: &mut [i64],
-    slots: &mut [i64],
-) -> Answer
-    requires counted { Counted g × Termed g }
-    requires roomy { Roomy (case_of g columns.old rows.old slots.old) }
-    ensures answer { result ≡ (body_of g file.now at).answer }
-    ensures columns { columns.new ≡ over (body_of g file.now at).columns columns.old }
-    ensures rows { rows.new ≡ over (body_of g file.now at).rows rows.old }
-    ensures slots { slots.new ≡ over (body_of g file.now at).slots slots.old }
+// The counts, which begin a file.
+#[tactic(auto, using(crate::proofs::ReadingLaws::counts_refused, crate::proofs::ReadingLaws::counts_done, crate::proofs::ReadingLaws::counts_left))]
+fn read_counts(file: &[u8]) -> Result<Head, Refusal>
+    ensures { (columns rows slots : List ℤ) → Follows result (reading_of file.now columns rows slots) (λ h. judging (first_refusal (shape_of (case_of h.grid columns rows slots))) (after_counts h.grid file.now h.next)) }
 {
-    let mut own_columns = [0i64; MOST_ACROSS];
-    let mut own_rows = [0i64; MOST_ACROSS];
-    let mut own_slots = [0i64; MOST_SLOTS];
-    let across = g.columns;
-    let along = g.rows;
-    let total = SLOTS_EACH * blocks(g);
-    let start = Run::Done { next: at };
-    let columns_read = fill(file, start, Part::Widths, across, &mut own_columns);
-    let rows_read = fill(file, columns_read, Part::Widths, along, &mut own_rows);
-    let run = fill_blocks(file, rows_read, g, &mut own_slots);
-    let end = ending(file, run);
-    if end.number != 0 {
-        return refused(end);
-    }
-    store(
-        g,
-        &own_columns[..across],
-        &own_rows[..along],
-        &own_slots[..total],
-        columns,
-        rows,
-        slots,
-    )
+    let mut counts = [0i64; COUNTS];
+    let next = fill(file, 0, Part::Counts, &mut counts)?;
+    Ok(Head {
+        grid: counted(&counts),
+        next,
+    })
 }
 
-// What follows δ and the weights. Inner: they and the counts are in range, and the lent slices have room.
-fn read_terms(
-    file: &[u8],
-    at: usize,
-    g: Grid,
-    columns: &mut [i64],
-    rows: &mut [i64],
-    slots: &mut [i64],
-) -> Answer
-    requires counted { Counted g × T (density_holds g) }
-    requires roomy { Roomy (case_of g columns.old rows.old slots.old) }
-    ensures answer { result ≡ (after_density g file.now at).answer }
-    ensures columns { columns.new ≡ over (after_density g file.now at).columns columns.old }
-    ensures rows { rows.new ≡ over (after_density g file.now at).rows rows.old }
-    ensures slots { slots.new ≡ over (after_density g file.now at).slots slots.old }
-{
-    let mut terms = [0i64; TERMS];
-    let start = Run::Done { next: at };
-    match fill(file, start, Part::Terms, TERMS, &mut terms) {
-        Run::Refused { refusal } => refused(refusal),
-        Run::Done { next } => read_body(file, next, termed(g, &terms), columns, rows, slots),
-    }
-}
-
-// What follows the counts: δ and the weights, and "4 for a weight or pair out of range". Inner: the counts are in range and the lent slices have room.
-fn read_density(
-    file: &[u8],
-    at: usize,
-    g: Grid,
-    columns: &mut [i64],
-    rows: &mut [i64],
-    slots: &mut [i64],
-) -> Answer
-    requires counted { Counted g }
-    requires roomy { Roomy (case_of g columns.old rows.old slots.old) }
-    ensures answer { result ≡ (after_counts g file.now at).answer }
-    ensures columns { columns.new ≡ over (after_counts g file.now at).columns columns.old }
-    ensures rows { rows.new ≡ over (after_counts g file.now at).rows rows.old }
-    ensures slots { slots.new ≡ over (after_counts g file.now at).slots slots.old }
+// What follows the counts: δ and the weights, and "4 for a weight or pair out of range".
+#[tactic(auto, using(crate::proofs::ReadingLaws::density_refused, crate::proofs::ReadingLaws::density_fails, crate::proofs::ReadingLaws::density_passes, crate::proofs::ReadingLaws::density_left))]
+fn read_density(file: &[u8], head: Head) -> Result<Head, Refusal>
+    ensures read { Follows result (after_counts head.grid file.now head.next) (λ h. after_density h.grid file.now h.next) }
+    ensures record { IfOk result (λ h. h.grid ≡ weighed_of head.grid (density_at file.now head.next)) }
+    ensures stands { IfOk result (λ h. T (density_holds h.grid)) }
 {
     let mut weights = [0i64; DENSITY];
-    let start = Run::Done { next: at };
-    match fill(file, start, Part::Density, DENSITY, &mut weights) {
-        Run::Refused { refusal } => refused(refusal),
-        Run::Done { next } => {
-            let h = weighed(g, &weights);
-            if !density_holds(h) {
-                return refused(Refusal {
-                    number: 4,
-                    block: 0,
-                });
-            }
-            read_terms(file, next, h, columns, rows, slots)
-        }
+    let next = fill(file, head.next, Part::Density, &mut weights)?;
+    let grid = weighed(head.grid, &weights);
+    if !density_holds(grid) {
+        return Err(Refusal::Terms);
     }
+    Ok(Head { grid, next })
+}
+
+// What follows δ and the weights. Inner: these are in range.
+#[tactic(auto, using(crate::proofs::ReadingLaws::terms_refused, crate::proofs::ReadingLaws::terms_done, crate::proofs::ReadingLaws::terms_left))]
+fn read_terms(file: &[u8], head: Head) -> Result<Head, Refusal>
+    requires { T (density_holds head.grid) }
+    ensures read { Follows result (after_density head.grid file.now head.next) (λ h. body_of h.grid file.now h.next) }
+    ensures record { IfOk result (λ h. h.grid ≡ termed_of head.grid (terms_at file.now head.next)) }
+    ensures stands { IfOk result (λ h. Termed h.grid) }
+{
+    let mut terms = [0i64; TERMS];
+    let next = fill(file, head.next, Part::Terms, &mut terms)?;
+    Ok(Head {
+        grid: termed(head.grid, &terms),
+        next,
+    })
+}
+
+// What follows the terms: "column widths, row widths, then per block ..", and then 8. Inner: the record is in range, and each slice has just the room
+// that it needs.
+fn read_parts(
+    file: &[u8],
+    head: Head,
+    columns: &mut [i64],
+    rows: &mut [i64],
+    slots: &mut [i64],
+) -> Result<(), Refusal>
+    requires counted { Counted head.grid }
+    requires termed { Termed head.grid }
+    requires columns_room { length columns.old ≡ head.grid.columns }
+    requires rows_room { length rows.old ≡ head.grid.rows }
+    requires slots_room { length slots.old ≡ 16 * blocks_of head.grid }
+    ensures read { Follows result (body_of head.grid file.now head.next) (λ _. stored_of (case_of head.grid columns.new rows.new slots.new)) }
+    ensures judged { IfOk result (λ _. Judged (case_of head.grid columns.new rows.new slots.new)) }
+{
+    let at = fill(file, head.next, Part::Widths, columns)?;
+    let at = fill(file, at, Part::Widths, rows)?;
+    let at = fill_blocks(file, at, head.grid, slots)?;
+    ended(file, at)
+}
+
+// What follows the terms, read into arrays of its own, "9, 10", and where nothing refuses it over the front of the lent slices. Inner: the record is in range
+// and the lent slices have room.
+#[tactic(auto, using(crate::proofs::ReadingLaws::stored_refused, crate::proofs::ReadingLaws::stored_passed))]
+fn read_body(
+    file: &[u8],
+    head: Head,
+    columns: &mut [i64],
+    rows: &mut [i64],
+    slots: &mut [i64],
+) -> Result<Grid, Refusal>
+    requires counted { Counted head.grid }
+    requires termed { Termed head.grid }
+    requires roomy { Roomy (case_of head.grid columns.old rows.old slots.old) }
+    ensures answer { answer_in result ≡ (body_of head.grid file.now head.next).answer }
+    ensures columns { columns.new ≡ over (body_of head.grid file.now head.next).columns columns.old }
+    ensures rows { rows.new ≡ over (body_of head.grid file.now head.next).rows rows.old }
+    ensures slots { slots.new ≡ over (body_of head.grid file.now head.next).slots slots.old }
+{
+    let grid = head.grid;
+    let mut columns_room = [0i64; MOST_ACROSS];
+    let mut rows_room = [0i64; MOST_ACROSS];
+    let mut slots_room = [0i64; MOST_SLOTS];
+    let total = SLOTS_EACH * blocks(grid);
+    let own_columns = &mut columns_room[..grid.columns];
+    let own_rows = &mut rows_room[..grid.rows];
+    let own_slots = &mut slots_room[..total];
+    read_parts(file, head, own_columns, own_rows, own_slots)?;
+    let case = Case {
+        grid,
+        columns: own_columns,
+        rows: own_rows,
+        slots: own_slots,
+    };
+    judge_limits(JudgedCase { case })?;
+    copy_front(case.columns, columns);
+    copy_front(case.rows, rows);
+    copy_front(case.slots, slots);
+    Ok(grid)
 }
 
 // Reads a case file. The answer is its record, or the first of 1 to 10 that the file is refused with, and the block that the refusal names. `columns` and
 // `rows` are lent for the widths in metres, `slots` for sixteen slots a block: what was read goes over the front of each, and the rest of it is as it
 // was. A refusal changes none of them. Any bytes, and slices of any length, are answered.
-pub fn read_case(file: &[u8], columns: &mut [i64], rows: &mut [i64], slots: &mut [i64]) -> Answer
-    ensures answer { result ≡ (reading_of file.now columns.old rows.old slots.old).answer }
+#[tactic(auto, using(crate::proofs::ReadingLaws::judging_refused, crate::proofs::ReadingLaws::judging_passed))]
+pub fn read_case(
+    file: &[u8],
+    columns: &mut [i64],
+    rows: &mut [i64],
+    slots: &mut [i64],
+) -> Result<Grid, Refusal>
+    ensures answer { answer_in result ≡ (reading_of file.now columns.old rows.old slots.old).answer }
     ensures columns { columns.new ≡ over (reading_of file.now columns.old rows.old slots.old).columns columns.old }
     ensures rows { rows.new ≡ over (reading_of file.now columns.old rows.old slots.old).rows rows.old }
     ensures slots { slots.new ≡ over (reading_of file.now columns.old rows.old slots.old).slots slots.old }
 {
-    let mut counts = [0i64; COUNTS];
-    match fill(
-        file,
-        Run::Done { next: 0 },
-        Part::Counts,
-        COUNTS,
-        &mut counts,
-    ) {
-        Run::Refused { refusal } => refused(refusal),
-        Run::Done { next } => {
-            let g = counted(&counts);
-            let refusal = shape(g, columns, rows, slots);
-            if refusal.number != 0 {
-                return refused(refusal);
-            }
-            read_density(file, next, g, columns, rows, slots)
-        }
-    }
+    let head = read_counts(file)?;
+    let lent = Case {
+        grid: head.grid,
+        columns,
+        rows,
+        slots,
+    };
+    lent.shape()?;
+    let head = read_density(file, head)?;
+    let head = read_terms(file, head)?;
+    read_body(file, head, columns, rows, slots)
 }

@@ -1,5 +1,5 @@
 -- What is left in a number that is lent for an answer.
-use Rattle.slices.specs.declared.Refusal.{Refusal}
+use Rattle.slices.specs.Refusals.{Refusal}
 use Rattle.slices.specs.Slices.{unless_refused}
 
 -- beside a refusal it stays as it was. Demand 1: "no lent slice changes by it"

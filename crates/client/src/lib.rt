@@ -6,20 +6,21 @@
 #![tactic(auto)]
 
 ghost use Rattle.std.specs.Prelude.{true, ◌≡◌, pos, length};
+ghost use Rattle.std.specs.Result.{result_unwrap_or};
 ghost use Rattle.whole.specs.Lent.{over};
 ghost use Rattle.slots.specs.Units.{most_level};
+ghost use Rattle.slices.specs.Refusals.{refusal_in};
 ghost use Rattle.metres.specs.declared.boundary.Boundary.TheVariants.{Sea};
 ghost use Rattle.metres.specs.Boundaries.{boundary_slots_of};
 ghost use Rattle.metres.specs.Metres.{shown_of, taken_of};
 ghost use Rattle.crossing.specs.Crossing.{check_handed, verdict_handed, table_handed, report_handed, read_handed, verdict_left, table_left, report_left, record_left};
 ghost use Rattle.client.specs.Kept.{kept};
 
-use casefile::read_case;
-use crossing::handed::{check_handed, report_handed, table_handed, verdict_handed};
-use crossing::{hand, hand_grid, hand_report, numbers_of_verdict};
-use grid::RECORD_NUMBERS;
+use crossing::handed::{HandedCase, read_handed};
+use crossing::{doubles_of, hand, numbers_of_grid, numbers_of_verdict, tell};
 use metres::boundary::{Boundary, take_boundary};
 use metres::{show, take_in};
+use slices::refusal::Refusal;
 
 // What a case in slices is refused with: 3, 7, 4, 5, 6, 9 or 10.
 #[unsafe(no_mangle)]
@@ -33,9 +34,13 @@ pub extern "C" fn caydubeesh_check(
     ensures number { result ≡ (check_handed «record».now columns.now rows.now slots.now true).number }
     ensures block { block.new ≡ (check_handed «record».now columns.now rows.now slots.now true).block }
 {
-    let refusal = check_handed(record, columns, rows, slots, true);
-    *block = refusal.block;
-    refusal.number
+    let case = HandedCase {
+        record,
+        columns,
+        rows,
+        slots,
+    };
+    tell(&case.check(true), block)
 }
 
 // The verdict on the heads proposed in a case in slices, over the front of `verdict`: code, block, count of places, largest balance in litres a day. It is
@@ -53,9 +58,14 @@ pub extern "C" fn caydubeesh_verdict(
     ensures block { block.new ≡ (verdict_handed «record».now columns.now rows.now slots.now (length verdict.old)).refusal.block }
     ensures verdict { verdict.new ≡ verdict_left «record».now columns.now rows.now slots.now verdict.old }
 {
-    let answer = verdict_handed(record, columns, rows, slots, verdict.len());
-    let numbers = numbers_of_verdict(answer.verdict);
-    hand(answer.refusal, &numbers, verdict, block)
+    let case = HandedCase {
+        record,
+        columns,
+        rows,
+        slots,
+    };
+    let answer = case.verdict(verdict.len()).map(numbers_of_verdict);
+    hand(answer, verdict, block)
 }
 
 // The table of a zone of a case in slices, over the front of `lines`: nine lines of fresh water and nine of salt water, litres a day. `marks` has a 1 for
@@ -74,9 +84,14 @@ pub extern "C" fn caydubeesh_zone_table(
     ensures block { block.new ≡ (table_handed «record».now columns.now rows.now slots.now marks.now (length lines.old)).refusal.block }
     ensures lines { lines.new ≡ table_left «record».now columns.now rows.now slots.now marks.now lines.old }
 {
-    let answer = table_handed(record, columns, rows, slots, marks, lines.len());
-    let numbers = answer.lines;
-    hand(answer.refusal, &numbers, lines, block)
+    let case = HandedCase {
+        record,
+        columns,
+        rows,
+        slots,
+    };
+    let answer = case.table(marks, lines.len());
+    hand(answer, lines, block)
 }
 
 // The report of a block of a case in slices, by its number, counted from 1, over the front of `metres`: fresh head, salt head, interface, fresh thickness,
@@ -95,8 +110,14 @@ pub extern "C" fn caydubeesh_report(
     ensures block { block.new ≡ (report_handed «record».now columns.now rows.now slots.now number (length metres.old)).refusal.block }
     ensures metres { metres.new ≡ report_left «record».now columns.now rows.now slots.now number metres.old }
 {
-    let answer = report_handed(record, columns, rows, slots, number, metres.len());
-    hand_report(answer.refusal, answer.report, metres, block)
+    let case = HandedCase {
+        record,
+        columns,
+        rows,
+        slots,
+    };
+    let answer = case.report(number, metres.len()).map(doubles_of);
+    hand(answer, metres, block)
 }
 
 // Reads a case file into `record`, widths and slots, sixteen to a block. It is refused with one of 1 to 10.
@@ -116,12 +137,22 @@ pub extern "C" fn caydubeesh_read(
     ensures rows { rows.new ≡ over (read_handed file.now (length «record».old) columns.old rows.old slots.old).rows rows.old }
     ensures slots { slots.new ≡ over (read_handed file.now (length «record».old) columns.old rows.old slots.old).slots slots.old }
 {
-    if record.len() < RECORD_NUMBERS {
-        *block = 0;
-        return 7;
+    let answer = read_handed(file, record.len(), columns, rows, slots);
+    hand(answer.map(numbers_of_grid), record, block)
+}
+
+// Puts an answer into what is lent for it, which beside a refusal stays as it was. The number of the refusal, 0 for none.
+fn give<T: Copy>(answer: Result<T, Refusal>, to: &mut T) -> u64
+    ensures number { result ≡ (refusal_in answer).number }
+    ensures to { to.new ≡ result_unwrap_or answer to.old }
+{
+    match answer {
+        Ok(given) => {
+            *to = given;
+            0
+        }
+        Err(refusal) => refusal.number(),
     }
-    let answer = read_case(file, columns, rows, slots);
-    hand_grid(answer.refusal, answer.grid, record, block)
 }
 
 // The nearest tick of a head, a base or a stage in metres, halves to the even one. It is refused with 12, and `tick` is then as it was.
@@ -130,13 +161,7 @@ pub extern "C" fn caydubeesh_tick(metres: f64, tick: &mut i64) -> u64
     ensures number { result ≡ (taken_of (pos most_level) metres).refusal.number }
     ensures tick { tick.new ≡ kept (taken_of (pos most_level) metres).refusal (taken_of (pos most_level) metres).tick tick.old }
 {
-    let taken = take_in(metres);
-    let refusal = taken.refusal;
-    let nearest = taken.tick;
-    if refusal.number == 0 {
-        *tick = nearest;
-    }
-    refusal.number
+    give(take_in(metres), tick)
 }
 
 // The same of a sea floor, whose tick is not above 0.
@@ -146,12 +171,7 @@ pub extern "C" fn caydubeesh_floor_tick(metres: f64, tick: &mut i64) -> u64
     ensures tick { tick.new ≡ kept (boundary_slots_of (Sea metres)).refusal (boundary_slots_of (Sea metres)).level tick.old }
 {
     let taken = take_boundary(Boundary::Sea { floor: metres });
-    let refusal = taken.refusal;
-    let nearest = taken.level;
-    if refusal.number == 0 {
-        *tick = nearest;
-    }
-    refusal.number
+    give(taken.map(|slots| slots.level), tick)
 }
 
 // A tick in metres, exactly. Ticks of 2⁵³ and more without sign are refused with 12, and `metres` is then as it was.
@@ -160,10 +180,5 @@ pub extern "C" fn caydubeesh_metres(tick: i64, metres: &mut f64) -> u64
     ensures number { result ≡ (shown_of tick).refusal.number }
     ensures metres { metres.new ≡ kept (shown_of tick).refusal (shown_of tick).metres metres.old }
 {
-    let shown = show(tick);
-    let refusal = shown.refusal;
-    if refusal.number == 0 {
-        *metres = shown.metres;
-    }
-    refusal.number
+    give(show(tick), metres)
 }

@@ -4,17 +4,17 @@ use Rattle.std.specs.Int.Signed.{lt_z}
 use Rattle.whole.specs.Lent.{over}
 use Rattle.grid.specs.declared.Grid.{Grid}
 use Rattle.grid.specs.Record.{record_numbers, record_of}
-use Rattle.slices.specs.declared.Refusal.{Refusal}
+use Rattle.slices.specs.Refusals.{Refusal}
 use Rattle.slices.specs.Slices.{Case, case_of, refusal, unless_refused}
 use Rattle.wellformed.specs.Limits.{checked_lent}
-use Rattle.report.specs.declared.Answer.{Answer as ReportAnswer}
 use Rattle.report.specs.declared.Report.{Report}
 use Rattle.report.specs.Reports.{no_report, report_of_case, telling}
-use Rattle.verdict.specs.declared.Answer.{Answer as VerdictAnswer}
+use Rattle.report.specs.Reports.{Answer as ReportAnswer}
 use Rattle.verdict.specs.declared.Verdict.{Verdict}
 use Rattle.verdict.specs.Ruling.{answered, verdict_of}
-use Rattle.budget.specs.declared.Answer.{Answer as TableAnswer}
+use Rattle.verdict.specs.Ruling.{Answer as VerdictAnswer}
 use Rattle.budget.specs.Answers.{marks_reach, refusing, zone_of_case}
+use Rattle.budget.specs.Answers.{Answer as TableAnswer}
 use Rattle.casefile.specs.Reading.{Read, reading_of}
 use Rattle.casefile.specs.Reading.{refusing as unread}
 

@@ -1,107 +1,106 @@
 // What is answered for a case that is handed over, as a record and slices, before it goes over the front of what is lent for it.
-ghost use Rattle.std.specs.Prelude.{◌≡◌, length};
-ghost use Rattle.crossing.specs.Crossing.{check_handed, verdict_handed, table_handed, report_handed};
-ghost use Rattle.crossing.specs.Inner.{table_reaches};
+ghost use Rattle.std.specs.Prelude.{◌≡◌, ◌≤◌, ◌<◌, length, IfOk, MatchResult};
+ghost use Rattle.whole.specs.Lent.{over};
+ghost use Rattle.grid.specs.Record.{record_numbers};
+ghost use Rattle.slices.specs.declared.refusal.Refusal.TheVariants.{Short};
+ghost use Rattle.slices.specs.Refusals.{refusal_in};
+ghost use Rattle.report.specs.Reports.{answer_in as report_in};
+ghost use Rattle.verdict.specs.Ruling.{answer_in as verdict_in};
+ghost use Rattle.budget.specs.Answers.{answer_in as table_in};
+ghost use Rattle.casefile.specs.Reading.{answer_in as record_in};
+ghost use Rattle.crossing.specs.Crossing.{check_handed, verdict_handed, table_handed, report_handed, read_handed};
+ghost use Rattle.crossing.specs.Inner.{lent_of};
 
 use super::{REPORT, TABLE, VERDICT, grid_of};
-use budget::zone_of_case;
-use grid::RECORD_NUMBERS;
-use report::{NO_REPORT, report_of_case};
-use slices::{Refusal, SHORT, reaches_over};
-use verdict::{NO_VERDICT, verdict_of_case};
-use wellformed::check_lent;
+use budget::{Table, zone_of_case};
+use casefile::read_case;
+use grid::{Grid, RECORD_NUMBERS};
+use report::{Report, report_of_case};
+use slices::refusal::Refusal;
+use slices::{Case, JudgedCase, reaches_over};
+use verdict::{Verdict, verdict_of_case};
+use wellformed::{WellFormedCase, check_lent};
 
-// What a case in slices is refused with, 7 for the record first; `reaches` says whether all that is lent besides is long enough.
-pub fn check_handed(
-    record: &[i64],
-    columns: &[i64],
-    rows: &[i64],
-    slots: &[i64],
-    reaches: bool,
-) -> Refusal
-    ensures { result ≡ check_handed «record».now columns.now rows.now slots.now reaches }
-{
-    if record.len() < RECORD_NUMBERS {
-        return SHORT;
-    }
-    check_lent(grid_of(record), columns, rows, slots, reaches)
+// A case as it is handed over: a row of the record's numbers, the widths of columns and rows in metres, and sixteen slots to a block. It may hold any
+// numbers, and each slice may have any length.
+#[derive(Clone, Copy)]
+pub struct HandedCase<'a> {
+    pub record: &'a [i64],
+    pub columns: &'a [i64],
+    pub rows: &'a [i64],
+    pub slots: &'a [i64],
 }
 
-// The verdict, or what stands in its place.
-pub fn verdict_handed(
-    record: &[i64],
-    columns: &[i64],
-    rows: &[i64],
-    slots: &[i64],
-    room: usize,
-) -> verdict::Answer
-    ensures { result ≡ verdict_handed «record».now columns.now rows.now slots.now room }
-{
-    let refusal = check_handed(record, columns, rows, slots, VERDICT <= room);
-    if refusal.number != 0 {
-        return verdict::Answer {
-            refusal,
-            verdict: NO_VERDICT,
+impl<'a> HandedCase<'a> {
+    // The case, or 7 for a record that is too short: it has no counts to judge.
+    #[tactic(auto, using(crate::proofs::CrossingLaws::grid_front))]
+    fn case(self) -> Result<Case<'a>, Refusal>
+        ensures { MatchResult result (λ c. (record_numbers ≤ length self.entry.record.now) × (c ≡ lent_of self.entry)) (λ e. (length self.entry.record.now < record_numbers) × (e ≡ Short)) }
+    {
+        let Some(record) = self.record.first_chunk() else {
+            return Err(Refusal::Short);
         };
+        Ok(Case {
+            grid: grid_of(record),
+            columns: self.columns,
+            rows: self.rows,
+            slots: self.slots,
+        })
     }
-    verdict::Answer {
-        refusal,
-        verdict: verdict_of_case(grid_of(record), columns, rows, slots),
+
+    // What the case is refused with, 7 for the record first; `reaches` says whether all that is lent besides is long enough.
+    #[tactic(auto, using(crate::proofs::CrossingLaws::case_short, crate::proofs::CrossingLaws::case_long))]
+    pub fn check(self, reaches: bool) -> Result<WellFormedCase<'a>, Refusal>
+        ensures refusal { refusal_in result ≡ check_handed self.entry.record.now self.entry.columns.now self.entry.rows.now self.entry.slots.now reaches }
+        ensures same { IfOk result (λ w. w.case ≡ lent_of self.entry) }
+    {
+        check_lent(self.case()?, reaches)
+    }
+
+    // The verdict, where `room` numbers are lent for it.
+    #[tactic(auto, using(verdict::proofs::RulingLaws::answer_err, verdict::proofs::RulingLaws::answer_ok), unfolding(crate::specs::Crossing::verdict_handed))]
+    pub fn verdict(self, room: usize) -> Result<Verdict, Refusal>
+        ensures { verdict_in result ≡ verdict_handed self.entry.record.now self.entry.columns.now self.entry.rows.now self.entry.slots.now room }
+    {
+        Ok(verdict_of_case(self.check(VERDICT <= room)?))
+    }
+
+    // The table of a zone, where `room` numbers are lent for it. `marks` has a 1 for each block of the zone and a 0 for each other.
+    #[tactic(auto, using(crate::proofs::CrossingLaws::table_short, crate::proofs::CrossingLaws::table_refused))]
+    pub fn table(self, marks: &[i64], room: usize) -> Result<Table, Refusal>
+        ensures { table_in result ≡ table_handed self.entry.record.now self.entry.columns.now self.entry.rows.now self.entry.slots.now marks.now room }
+    {
+        let case = self.case()?;
+        let reaches = TABLE <= room && reaches_over(case.grid, 1, marks.len());
+        zone_of_case(check_lent(case, reaches)?, marks)
+    }
+
+    // The report of a block, by its number, counted from 1, where `room` doubles are lent for it.
+    #[tactic(auto, using(crate::proofs::CrossingLaws::handed_refused, crate::proofs::CrossingLaws::handed_given), unfolding(crate::specs::Crossing::report_handed))]
+    pub fn report(self, number: usize, room: usize) -> Result<Report, Refusal>
+        ensures { report_in result ≡ report_handed self.entry.record.now self.entry.columns.now self.entry.rows.now self.entry.slots.now number room }
+    {
+        let formed = self.check(REPORT <= room)?;
+        report_of_case(JudgedCase { case: formed.case }, number)
     }
 }
 
-// Whether what is lent for a table is long enough, and the marks too. Of a short record it says no.
-fn table_reaches(record: &[i64], marks: &[i64], room: usize) -> bool
-    ensures { result ≡ table_reaches «record».now (length marks.now) room }
-{
-    if record.len() < RECORD_NUMBERS {
-        return false;
-    }
-    if room < TABLE {
-        return false;
-    }
-    reaches_over(grid_of(record), 1, marks.len())
-}
-
-// The table of a zone, or what stands in its place.
-pub fn table_handed(
-    record: &[i64],
-    columns: &[i64],
-    rows: &[i64],
-    slots: &[i64],
-    marks: &[i64],
+// Reads a case file into lent slices, where `room` numbers are lent for its record: 7 for that before all else.
+#[tactic(auto, using(crate::proofs::CrossingLaws::read_short, crate::proofs::CrossingLaws::read_roomy))]
+pub fn read_handed(
+    file: &[u8],
     room: usize,
-) -> budget::Answer
-    ensures { result ≡ table_handed «record».now columns.now rows.now slots.now marks.now room }
+    columns: &mut [i64],
+    rows: &mut [i64],
+    slots: &mut [i64],
+) -> Result<Grid, Refusal>
+    ensures answer { record_in result ≡ (read_handed file.now room columns.old rows.old slots.old).answer }
+    ensures columns { columns.new ≡ over (read_handed file.now room columns.old rows.old slots.old).columns columns.old }
+    ensures rows { rows.new ≡ over (read_handed file.now room columns.old rows.old slots.old).rows rows.old }
+    ensures slots { slots.new ≡ over (read_handed file.now room columns.old rows.old slots.old).slots slots.old }
 {
-    let reaches = table_reaches(record, marks, room);
-    let refusal = check_handed(record, columns, rows, slots, reaches);
-    if refusal.number != 0 {
-        return budget::Answer {
-            refusal,
-            lines: [0i64; TABLE],
-        };
+    if room < RECORD_NUMBERS {
+        return Err(Refusal::Short);
     }
-    zone_of_case(grid_of(record), columns, rows, slots, marks)
-}
-
-// The report of a block, or what stands in its place.
-pub fn report_handed(
-    record: &[i64],
-    columns: &[i64],
-    rows: &[i64],
-    slots: &[i64],
-    number: usize,
-    room: usize,
-) -> report::Answer
-    ensures { result ≡ report_handed «record».now columns.now rows.now slots.now number room }
-{
-    let refusal = check_handed(record, columns, rows, slots, REPORT <= room);
-    if refusal.number != 0 {
-        return report::Answer {
-            refusal,
-            report: NO_REPORT,
-        };
-    }
-    report_of_case(grid_of(record), columns, rows, slots, number)
+    read_case(file, columns, rows, slots)
 }

@@ -1,47 +1,58 @@
 -- Laws of what a file's runs read: how many numbers, within which ends, refused with what, and that the slots of each block stand. Assumes nothing.
 use mathlib.Core.Bool.{Bool, cond, false, true}
-use mathlib.Core.List.{List, [], ◌++◌, ◌∷◌, append-nil}
+use Rattle.std.specs.Prelude.{Result, Ok, Err, MatchResult}
+use Rattle.std.specs.Result.{is_ok}
+use mathlib.Core.List.{List, [], ◌++◌, ◌∷◌, append_assoc, append-nil}
 use mathlib.Core.Logic.{⊎_elim}
 use mathlib.Core.Path.{◌∙◌, ◌≡◌, ap, refl, subst, sym}
-use Prim.Native.Nat.{◌*◌, ◌+◌, ◌-◌, ◌<◌, ◌≤◌, suc, zero, ℕ}
+use Prim.Native.Nat.{◌*◌, ◌+◌, ◌<◌, ◌^◌, ◌≤◌, suc, zero, ℕ}
+use native.Mathlib.Decide.{ℕ_discrete}
 use native.Mathlib.Nat.{eq-or-lt_of_le, le_of_suc-le-suc}
 use native.Mathlib.Numerals.{add-one}
 use native.Mathlib.Omega.{arith}
 use lib.Dec.{T}
 use lib.IntN.{pos, ℤ}
 use lib.ListN.{get_or-append, drop, drop_of_length-le, get_or, length, length-append, length-drop, take, take-append-drop}
-use lib.Seq.{drop-append-le, drop_at, get_or-append_seam}
+use lib.Seq.{drop-append-le, drop_at, get_or-append_seam, length-take-le}
 use borrow.Rule.Slice.PartMut.{put_mid}
 use Rattle.whole.specs.Lent.{over}
-use Rattle.whole.proofs.LentLaws.{over_rest, rest_all, rest_put}
+use Rattle.whole.proofs.LentLaws.{over_part}
 use Rattle.whole.specs.declared.ranges.Range.{Range}
 use Rattle.whole.specs.Ranges.{in_range}
 use Rattle.whole.specs.Inner.{In}
 use Rattle.whole.proofs.SearchLaws.{holds}
 use Rattle.whole.proofs.WithinLaws.{range_in}
-use Rattle.numbers.specs.declared.Number.{Number}
-use Rattle.numbers.specs.Numbers.{number_at}
+use Rattle.numbers.specs.declared.Number.{Number as Found}
+use Rattle.numbers.specs.declared.NumberError.{NumberError}
+use Rattle.numbers.specs.Numbers.{Number, number_at, number_in as read_in}
+use Rattle.numbers.proofs.NumbersLaws.{number_bounded}
 use Rattle.grid.specs.declared.Grid.{Grid}
 use Rattle.grid.specs.Place.{top_of}
 use Rattle.slots.specs.Rules.{slots_hold}
 use Rattle.slots.specs.Slots.{part_of}
 use Rattle.slots.specs.Units.{slots_each}
 use Rattle.slots.proofs.SlotsLaws.{slots_hold_same}
-use Rattle.slices.specs.declared.Refusal.{Refusal}
+use Rattle.slices.specs.Refusals.{Refusal}
 use Rattle.slices.specs.Slices.{refusal}
-use Rattle.fields.specs.declared.Got.{Got}
-use Rattle.fields.specs.declared.Got.TheVariants.{Value}
 use Rattle.fields.specs.declared.Part.{Part}
 use Rattle.fields.specs.declared.Part.TheVariants.{Counts, Density, Slots, Terms, Widths}
-use Rattle.fields.specs.declared.runs.Run.{Run}
-use Rattle.fields.specs.declared.runs.Run.TheVariants.{Done, Refused}
 use Rattle.fields.specs.Inner.{Within}
-use Rattle.fields.specs.Fields.{ends_of, field_at, is_sent, judged_in, meant_of, number_judged, part_refusal}
-use Rattle.fields.specs.Runs.{Filled, block_from, blocks_from, ending_of, fill_from, fill_of, onward, ruled}
-use Rattle.fields.specs.declared.Got.TheVariants as got
-use Rattle.numbers.specs.declared.Number.TheVariants as number
+use Rattle.fields.specs.Fields.{Got, Value, ends_of, field_at, is_sent, judged_in, meant_of, number_judged, part_refusal}
+use Rattle.fields.specs.Runs.{Run, Done, Refused, Filled, block_from, blocks_from, ending_of, fill_from, fill_of, onward, ruled}
+use Rattle.fields.specs.Fields as got
+use Rattle.numbers.specs.Numbers as number
 
 -- ---- one number
+
+-- a number that was read, where what refuses it was then named otherwise, has at most 35 bits
+pub read_below : {E : Type 0} (file : List ℕ) (at : ℕ) (r : Result Found NumberError) (q : Result Found E) (P : NumberError → Type 0) (n : Found) →
+    read_in r ≡ number_at file at → MatchResult r (λ x. q ≡ Ok x) P → is_ok q ≡ is_ok r → q ≡ Ok n → n.value < 2 ^ 35
+read_below file at (Ok x) q P n e m v h =
+    let same : x ≡ n = cc in
+    rw (← same) (number_bounded file at x.value x.next (sym e)).below
+read_below file at (Err _) q P n e m v h =
+    let z : ◌≡◌ {A = Bool} true false = sym (ap is_ok h) ∙ v in
+    cc
 
 -- a number that was refused has no value
 unheard : (r : Refusal) (v : ℤ) (next : ℕ) → got.Refused r ≡ Value v next → ⊥
@@ -186,6 +197,14 @@ module _ (part : Part) (file : List ℕ) where
       (λ left at n done v f e later h. later h ∙ omega (arith, length-append done (v ∷ [])))
       left at done
 
+  -- and no run reads more
+  fill_most : (left at : ℕ) (done : List ℤ) → length (fill_from part file left at done).values ≤ length done + left
+  fill_most =
+      run_whole (λ left done f. length f.values ≤ length done + left)
+      (λ at done. omega arith)
+      (λ left at done r p. omega arith)
+      (λ left at n done v f e later. omega (arith, later, length-append done (v ∷ [])))
+
   -- a run tells what a number that is refused does
   fill_telling : (Tells : ℕ → Type 0) → Early Tells → (left at : ℕ) (done : List ℤ) → Telling Tells (fill_from part file left at done).run
   fill_telling Tells early =
@@ -229,6 +248,12 @@ unfolding fill_of
 fill_of_length (Done at) part file total next e = omega (arith, fill_length part file total at next [] e)
 fill_of_length (Refused r) part file total next e = absurd (undone r next e)
 
+-- and no run reads more
+pub fill_of_most : (from : Run) (part : Part) (file : List ℕ) (total : ℕ) → length (fill_of from part file total).values ≤ total
+unfolding fill_of
+fill_of_most (Done at) part file total = omega (arith, fill_most part file total at [])
+fill_of_most (Refused r) part file total = omega arith
+
 -- where all numbers of a part are sent, those that a done run read are within their ends
 pub fill_within : (part : Part) → ((d : List ℤ) → is_sent part d ≡ true) → (file : List ℕ) (from : Run) (total next : ℕ) → (fill_of from part file total).run ≡ Done next → Within part total (fill_of from part file total).values
 unfolding fill_of
@@ -260,19 +285,31 @@ ruled_done (Refused r) block next stands e = absurd (undone r next e)
 ruled_done (Done at) block next true e = (e, refl)
 ruled_done (Done at) block next false e = absurd (undone (refusal 6 block) next e)
 
--- a block's rules are asked of its own slots, whatever lies behind them
-pub ruled_front : (from : Run) (file : List ℕ) (block : ℕ) (top : Bool) (l : List ℤ) →
-    ruled (fill_of from (Slots block) file slots_each).run block (slots_hold (over (fill_of from (Slots block) file slots_each).values l) top)
-    ≡ ruled (fill_of from (Slots block) file slots_each).run block (slots_hold (fill_of from (Slots block) file slots_each).values top)
-unfolding ruled
-ruled_front from file block top l = go (fill_of from (Slots block) file slots_each).run (fill_of_length from (Slots block) file slots_each)
-  where
-    slots : List ℤ
-    slots = (fill_of from (Slots block) file slots_each).values
+-- the run over a block's slots, judged by what it left over a slice: refused where that over its numbers is, and otherwise by its rules, which are asked of
+-- its own slots, whatever lies behind them
+module _ (from : Run) (file : List ℕ) (block : ℕ) (top : Bool) where
+  pub block_refused : (r : Refusal) → (fill_of from (Slots block) file slots_each).run ≡ Refused r → (block_from from file block top).run ≡ Refused r
+  unfolding block_from ruled
+  block_refused r e = rw e refl
 
-    go : (run : Run) → ((next : ℕ) → run ≡ Done next → length slots ≡ slots_each) → ruled run block (slots_hold (over slots l) top) ≡ ruled run block (slots_hold slots top)
-    go (Done next) whole = ap (ruled (Done next) block) (slots_hold_front slots (drop (length slots) l) top (omega (arith, whole next refl)))
-    go (Refused r) whole = refl
+  block_ruled : (next : ℕ) (l : List ℤ) → (fill_of from (Slots block) file slots_each).run ≡ Done next →
+      (block_from from file block top).run ≡ cond (slots_hold (over (fill_of from (Slots block) file slots_each).values l) top) (Done next) (Refused (refusal 6 block))
+  unfolding block_from ruled
+  block_ruled next l e =
+      let slots = (fill_of from (Slots block) file slots_each).values in
+      rw (e, slots_hold_front slots (drop (length slots) l) top (omega (arith, fill_of_length from (Slots block) file slots_each next e))) refl
+
+  module _ (next : ℕ) (l out : List ℤ) (done : Done next ≡ (fill_of from (Slots block) file slots_each).run) (left : out ≡ over (fill_of from (Slots block) file slots_each).values l) where
+    pub block_falls : false ≡ slots_hold out top → (block_from from file block top).run ≡ Refused (refusal 6 block)
+    block_falls e = block_ruled next l (sym done) ∙ rw (← left, ← e) refl
+
+    pub block_stands : true ≡ slots_hold out top → (block_from from file block top).run ≡ Done next
+    block_stands e = block_ruled next l (sym done) ∙ rw (← left, ← e) refl
+
+  -- it leaves just what it read
+  pub block_values : (block_from from file block top).values ≡ (fill_of from (Slots block) file slots_each).values
+  unfolding block_from
+  block_values = refl
 
 -- a block's run tells what 6 and the run over its numbers do
 ruled_telling : (Tells : ℕ → Type 0) (run : Run) (block : ℕ) (stands : Bool) → Tells 6 → Telling Tells run → Telling Tells (ruled run block stands)
@@ -299,7 +336,26 @@ block_stood from file block next top e =
       stand = holds h.1;
     }
 
+-- values over the front of a part of a slice
+over_mid : (m k : ℕ) (ws l : List ℤ) → length ws ≤ k → m + k ≤ length l → put_mid m k l (over ws (take k (drop m l))) ≡ take m l ++ over ws (drop m l)
+over_mid m k ws l most room =
+    let d = drop m l in
+    let j = length ws in
+    let front : j ≤ length (take k d) = rw (length-take-le k d (omega (arith, length-drop m l))) most in
+    ap (λ (z : List ℤ). take m l ++ z) (append_assoc ws (drop j (take k d)) (drop k d) ∙ ap (λ (z : List ℤ). ws ++ z) (sym (drop-append-le j (take k d) (drop k d) front) ∙ ap (drop j) (take-append-drop k d)))
+
 module _ (from : Run) (g : Grid) (file : List ℕ) where
+  -- a run that is refused goes over no block more
+  refused_more : (f : Filled) (r : Refusal) (block : ℕ) (top : Bool) → f.run ≡ Refused r →
+      let b = block_from f.run file block top in
+      let more : Filled = record { run = b.run; values = f.values ++ b.values } in
+      more ≡ f
+  unfolding block_from fill_of ruled
+  refused_more f r block top e =
+      let run : (block_from f.run file block top).run ≡ f.run = rw e refl in
+      let values : f.values ++ (block_from f.run file block top).values ≡ f.values = rw e (append-nil f.values) in
+      λ i. record { run = run i; values = values i }
+
   -- of the last of some blocks
   last_stood : (n next : ℕ) → (blocks_from from g file (suc n)).run ≡ Done next → Stood (blocks_from from g file n).run (block_from (blocks_from from g file n).run file (suc n) (top_of g n)).values (top_of g n)
   unfolding blocks_from
@@ -331,30 +387,43 @@ module _ (from : Run) (g : Grid) (file : List ℕ) where
       (fill_of_telling Tells early before.run (Slots (suc n)) file slots_each (blocks_telling Tells early h n))
 
   -- the run over one block more
-  pub block_next : (n : ℕ) → (block_from (blocks_from from g file n).run file (n + 1) (top_of g n)).run ≡ (blocks_from from g file (n + 1)).run
+  pub block_next : (n at : ℕ) → Done at ≡ (blocks_from from g file n).run → (block_from (Done at) file (n + 1) (top_of g n)).run ≡ (blocks_from from g file (n + 1)).run
   unfolding blocks_from
-  block_next n = rw add-one refl
+  block_next n at e = rw (add-one, e) refl
 
-  -- one block more, over the slots of those before it; where a block before it was refused, nothing is put in
-  pub block_put : (n : ℕ) (l₀ : List ℤ) →
+  -- one block more, over the slots of those before it
+  pub block_put : (n at : ℕ) (top : Bool) (l₀ l part : List ℤ) → Done at ≡ (blocks_from from g file n).run → top ≡ top_of g n → slots_each * n + slots_each ≤ length l →
+      l ≡ over (blocks_from from g file n).values l₀ → part ≡ over (block_from (Done at) file (n + 1) top).values (take slots_each (drop (slots_each * n) l)) →
+      put_mid (slots_each * n) slots_each l part ≡ over (blocks_from from g file (n + 1)).values l₀
+  unfolding blocks_from
+  block_put n at top l₀ l part done is_top room whole new =
       let before = blocks_from from g file n in
-      let l = over before.values l₀ in
-      put_mid (slots_each * n) (length l - slots_each * n) l (over (block_from before.run file (n + 1) (top_of g n)).values (take (length l - slots_each * n) (drop (slots_each * n) l)))
-      ≡ over (blocks_from from g file (n + 1)).values l₀
-  unfolding blocks_from block_from fill_of
-  block_put n l₀ = rw add-one (go (blocks_from from g file n).run refl)
+      let slots = (block_from before.run file (suc n) (top_of g n)).values in
+      let most : length slots ≤ slots_each = rw block_values (fill_of_most before.run (Slots (suc n)) file slots_each) in
+      let size : length before.values ≡ slots_each * n = blocks_length n at (sym done) in
+      let put = over_mid (slots_each * n) slots_each slots l most room in
+      let more = rw (← whole, size) at (over_part before.values slots l₀) in
+      rw (new, add-one, done, is_top) (put ∙ more)
+
+  -- a run over blocks that is refused reads no more of them
+  pub blocks_stay : (n : ℕ) (r : Refusal) → (blocks_from from g file n).run ≡ Refused r → (m : ℕ) → n ≤ m → blocks_from from g file m ≡ blocks_from from g file n
+  unfolding blocks_from
+  blocks_stay n r e zero l = let same : 0 ≡ n = omega arith in ap (blocks_from from g file) same
+  blocks_stay n r e (suc m) l = go (ℕ_discrete n (suc m)) (λ k. blocks_stay n r e m k)
     where
-      before : List ℤ
-      before = (blocks_from from g file n).values
+      go : Dec (n ≡ suc m) → (n ≤ m → blocks_from from g file m ≡ blocks_from from g file n) → blocks_from from g file (suc m) ≡ blocks_from from g file n
+      go (yes same) before = ap (blocks_from from g file) (sym same)
+      go (no less) before =
+          let k = before (omega arith) in
+          refused_more (blocks_from from g file m) r (suc m) (top_of g m) (ap (λ (f : Filled). f.run) k ∙ e) ∙ k
 
-      l : List ℤ
-      l = over before l₀
-
-      go : (run : Run) → (blocks_from from g file n).run ≡ run →
-          put_mid (slots_each * n) (length l - slots_each * n) l (over (block_from run file (suc n) (top_of g n)).values (take (length l - slots_each * n) (drop (slots_each * n) l)))
-          ≡ over (before ++ (block_from run file (suc n) (top_of g n)).values) l₀
-      go (Done at) e = over_rest before (block_from (Done at) file (suc n) (top_of g n)).values l₀ (blocks_length n at e) refl refl
-      go (Refused r) e = rw (rest_all (slots_each * n) l, rest_put (slots_each * n) l (drop (slots_each * n) l), append-nil before) (take-append-drop (slots_each * n) l)
+  -- so a block that is refused ends the run
+  pub blocks_refused : (n m at : ℕ) (top : Bool) (r : Refusal) → Done at ≡ (blocks_from from g file n).run → top ≡ top_of g n → Refused r ≡ (block_from (Done at) file (n + 1) top).run → n < m →
+      ((blocks_from from g file m).run ≡ Refused r) × ((blocks_from from g file m).values ≡ (blocks_from from g file (n + 1)).values)
+  blocks_refused n m at top r done is_top told less =
+      let next : Refused r ≡ (blocks_from from g file (n + 1)).run = (rw is_top at told) ∙ block_next n at done in
+      let stays = blocks_stay (n + 1) r (sym next) m (omega arith) in
+      (ap (λ (f : Filled). f.run) stays ∙ sym next, ap (λ (f : Filled). f.values) stays)
 
   -- each block's slots stand
   pub blocks_hold : (n next : ℕ) → (blocks_from from g file n).run ≡ Done next → (i : ℕ) → i < n → T (slots_hold (part_of (blocks_from from g file n).values i) (top_of g i))

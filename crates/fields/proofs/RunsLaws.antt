@@ -4,16 +4,18 @@ use mathlib.Core.Path.{◌≡◌, ap, refl}
 use Prim.Native.Nat.{◌-◌, ◌<◌, ◌≤◌, suc, zero, ℕ}
 use native.Mathlib.Omega.{arith}
 use lib.IntN.{ℤ}
-use Rattle.slices.specs.declared.Refusal.{Refusal}
-use Rattle.fields.specs.declared.Got.{Got}
-use Rattle.fields.specs.declared.Got.TheVariants.{Value}
+use Rattle.slices.specs.Refusals.{Refusal}
 use Rattle.fields.specs.declared.Part.{Part}
-use Rattle.fields.specs.declared.runs.Run.TheVariants.{Done, Refused}
-use Rattle.fields.specs.Fields.{field_at}
-use Rattle.fields.specs.Runs.{fill_from, onward}
-use Rattle.fields.specs.declared.Got.TheVariants as got
+use Rattle.fields.specs.Fields.{Got, Value, field_at}
+use Rattle.fields.specs.Runs.{Done, Refused, fill_from, fill_of, onward}
+use Rattle.fields.specs.Fields as got
 
 module _ (part : Part) (file : List ℕ) where
+  -- a run from a place
+  pub fill_here : (at total : ℕ) → fill_of (Done at) part file total ≡ fill_from part file total at []
+  unfolding fill_of
+  fill_here at total = refl
+
   pub fill_none : (left at : ℕ) (done : List ℤ) → left ≤ 0 → fill_from part file left at done ≡ record { run = Done at; values = done }
   unfolding fill_from
   fill_none zero at done h = refl

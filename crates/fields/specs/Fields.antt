@@ -1,23 +1,43 @@
 -- The numbers that a case file sends, one at a time (document 01, "The case file" and "Refusal numbers").
-use Rattle.std.specs.Prelude.{Bool, ◌&&◌, cond, false, true, List, [], ◌∷◌, ◌+◌, ℕ, eqb, leb, pos, ℤ, get_or, length}
+use Rattle.std.specs.Prelude.{Bool, ◌&&◌, cond, false, true, List, [], ◌∷◌, ◌+◌, ℕ, eqb, leb, pos, ℤ, get_or, length, Result, Ok, Err}
 use Rattle.std.specs.Int.Signed.{lt_z}
 use Rattle.whole.specs.declared.ranges.Range.{Range}
 use Rattle.whole.specs.Ranges.{between, in_range}
 use Rattle.whole.specs.Whole.{is_zero}
-use Rattle.numbers.specs.declared.Number.{Number}
-use Rattle.numbers.specs.Numbers.{number_at, signed_of}
+use Rattle.numbers.specs.Numbers.{Number, number_at, signed_of}
 use Rattle.grid.specs.Record.{counts, density}
 use Rattle.grid.specs.Units.{least_fresh_weight, least_salt_weight, most_across, most_delta, most_fresh_weight, most_layers, most_salt_weight, most_step, most_tolerance}
 use Rattle.slots.specs.Ranges.{range_of}
 use Rattle.slots.specs.Rules.{is_open}
 use Rattle.slots.specs.Slots.{is_active, slots_at}
-use Rattle.slices.specs.declared.Refusal.{Refusal}
+use Rattle.slices.specs.declared.refusal.Refusal.{Refusal as Fault}
+use Rattle.slices.specs.Refusals.{Refusal, block_of, number_of}
 use Rattle.slices.specs.Slices.{most_width, refusal}
-use Rattle.fields.specs.declared.Got.{Got}
-use Rattle.fields.specs.declared.Got.TheVariants.{Refused, Value}
+use Rattle.fields.specs.declared.Field.{Field}
 use Rattle.fields.specs.declared.Part.{Part}
 use Rattle.fields.specs.declared.Part.TheVariants.{Counts, Density, Slots, Terms, Widths}
-use Rattle.numbers.specs.declared.Number.TheVariants as number
+use Rattle.numbers.specs.Numbers as number
+use Rattle.numbers.specs.declared.NumberError.{NumberError}
+use Rattle.numbers.specs.declared.NumberError.TheVariants as error
+
+-- A number that was read, and the place after it; or a refusal.
+pub data Got : Type 0 where
+  Value : (value : ℤ) → (next : ℕ) → Got
+  Refused : (refusal : Refusal) → Got
+
+-- what the functions refuse with, by its number and block
+abbrev pub refusal_of : Fault → Refusal
+refusal_of e = record { number = number_of e; block = block_of e }
+
+-- what no number is refused with, by its number and block
+abbrev pub unread_of : NumberError → Refusal
+unread_of error.Ended = refusal 1 0
+unread_of error.TooLong = refusal 2 0
+
+-- a number or a refusal as the functions answer with it
+abbrev pub got_in : Result Field Fault → Got
+got_in (Ok f) = Value f.value f.next
+got_in (Err e) = Refused (refusal_of e)
 
 -- "columns, rows; layers | 1..=64 each; 1..=8", "δ, whole | 1..=100", "water-table flag | 0, 1", "time step, days | 1..=36,525", "tolerance, litres/day |
 -- 0..=1,000,000,000", in the order "columns, rows, layers, δ, flag, step, tolerance". Document 02, W-209: "A δ of 0 in the case now means that two more numbers

@@ -1,19 +1,26 @@
 -- Runs of numbers of a case file (document 01, "The case file").
-use Rattle.std.specs.Prelude.{Bool, cond, List, [], ◌++◌, ◌∷◌, suc, zero, ℕ, leb, ℤ, length}
+use Rattle.std.specs.Prelude.{Bool, cond, List, [], ◌++◌, ◌∷◌, suc, zero, ℕ, leb, ℤ, length, Result, Ok, Err}
 use Rattle.grid.specs.declared.Grid.{Grid}
 use Rattle.grid.specs.Place.{top_of}
 use Rattle.slots.specs.Rules.{slots_hold}
 use Rattle.slots.specs.Units.{slots_each}
-use Rattle.slices.specs.declared.Refusal.{Refusal}
+use Rattle.slices.specs.declared.refusal.Refusal.{Refusal as Fault}
+use Rattle.slices.specs.Refusals.{Refusal}
 use Rattle.slices.specs.Slices.{refusal, unless}
-use Rattle.fields.specs.declared.Got.{Got}
-use Rattle.fields.specs.declared.Got.TheVariants.{Value}
 use Rattle.fields.specs.declared.Part.{Part}
 use Rattle.fields.specs.declared.Part.TheVariants.{Slots}
-use Rattle.fields.specs.declared.runs.Run.{Run}
-use Rattle.fields.specs.declared.runs.Run.TheVariants.{Done, Refused}
-use Rattle.fields.specs.Fields.{field_at}
-use Rattle.fields.specs.declared.Got.TheVariants as got
+use Rattle.fields.specs.Fields.{Got, Value, field_at, refusal_of}
+use Rattle.fields.specs.Fields as got
+
+-- How a run ended: the place after its last number, or a refusal.
+pub data Run : Type 0 where
+  Done : (next : ℕ) → Run
+  Refused : (refusal : Refusal) → Run
+
+-- the same as the functions answer with it
+abbrev pub run_in : Result ℕ Fault → Run
+run_in (Ok next) = Done next
+run_in (Err e) = Refused (refusal_of e)
 
 -- how a run ended, and the numbers that it read
 pub record Filled : Type 0 where

@@ -5,15 +5,16 @@ pub mod runs;
 
 ghost use Rattle.std.specs.Prelude.{◌≡◌, ◌≤◌, ◌<◌, ◌^◌, length};
 ghost use Rattle.numbers.specs.Numbers.{number_at};
-ghost use Rattle.fields.specs.Fields.{most_slots, record_range, is_boundary_slot, slot_sent, weight_sent, is_sent, ends_of, part_refusal, meant_of, judged_in, number_judged, field_at};
+ghost use Rattle.fields.specs.Fields.{most_slots, got_in, refusal_of, record_range, is_boundary_slot, slot_sent, weight_sent, is_sent, ends_of, part_refusal, meant_of, number_judged, field_at, unread_of};
 
 use grid::units::{
     LEAST_FRESH_WEIGHT, LEAST_SALT_WEIGHT, MOST_ACROSS, MOST_BLOCKS, MOST_DELTA, MOST_FRESH_WEIGHT,
     MOST_LAYERS, MOST_SALT_WEIGHT, MOST_STEP, MOST_TOLERANCE,
 };
 use grid::{COUNTS, DENSITY, RECORD_NUMBERS};
-use numbers::{Number, read_number, signed};
-use slices::{Refusal, WIDTHS};
+use numbers::{NumberError, read_number, signed};
+use slices::WIDTHS;
+use slices::refusal::Refusal;
 use slots::ranges::range_of;
 use slots::rules::OPEN_KINDS;
 use slots::units::SLOTS_EACH;
@@ -31,11 +32,11 @@ pub enum Part {
     Slots { block: usize },
 }
 
-// A number that was read, and the place after it; or a refusal.
+// A number of a part that was read, and the place after it.
 #[derive(Clone, Copy)]
-pub enum Got {
-    Value { value: i64, next: usize },
-    Refused { refusal: Refusal },
+pub struct Field {
+    pub value: i64,
+    pub next: usize,
 }
 
 // The slots of the most blocks: more than any part of a file has.
@@ -88,6 +89,7 @@ const RECORD_RANGES: [Range; RECORD_NUMBERS] = [
 ];
 
 // The ends of a number of the record, counted from 0; 0 and 0 where there is no such number.
+#[tactic(auto, unfolding(crate::specs::Fields::record_range))]
 fn record_range(n: usize) -> Range
     ensures { result ≡ record_range n }
 {
@@ -107,47 +109,36 @@ fn is_boundary_slot(slot: usize) -> bool
 
 // Whether the next slot of a block is sent, after the slots so far: "K alone if 0, otherwise its slots in order, the two boundary slots only for
 // kinds 1 and 2".
+#[tactic(auto, unfolding(crate::specs::Fields::slot_sent, slots::specs::Slots::slots_at))]
 fn slot_sent(done: &[i64]) -> bool
     ensures { result ≡ slot_sent done.now }
 {
-    if done.len() == 0 {
-        return true;
-    }
-    if 0 < done[0] {
-        if is_boundary_slot(done.len()) {
-            let kind = done[9];
-            return in_range(OPEN_KINDS, kind);
-        }
-        return true;
-    }
-    false
+    done.is_empty()
+        || 0 < done[0] && (!is_boundary_slot(done.len()) || in_range(OPEN_KINDS, done[9]))
 }
 
 // Whether δ or the next weight is sent, after those so far: "A δ of 0 in the case now means that two more numbers follow".
+#[tactic(auto, unfolding(crate::specs::Fields::weight_sent))]
 fn weight_sent(done: &[i64]) -> bool
     ensures { result ≡ weight_sent done.now }
 {
-    if done.len() == 0 {
-        return true;
-    }
-    let delta = done[0];
-    is_zero(delta)
+    done.is_empty() || is_zero(done[0])
 }
 
 // Whether the next number of a part is sent, after those so far. One that is not sent is 0.
+#[tactic(auto, unfolding(crate::specs::Fields::is_sent))]
 fn is_sent(part: Part, done: &[i64]) -> bool
     ensures { result ≡ is_sent part done.now }
 {
     match part {
-        Part::Counts => true,
         Part::Density => weight_sent(done),
-        Part::Terms => true,
-        Part::Widths => true,
-        Part::Slots { block: _ } => slot_sent(done),
+        Part::Slots { .. } => slot_sent(done),
+        Part::Counts | Part::Terms | Part::Widths => true,
     }
 }
 
 // The ends of a number of a part, counted from 0. Inner: n is at most 8,192.
+#[tactic(auto, unfolding(crate::specs::Fields::ends_of))]
 fn ends_of(part: Part, n: usize) -> Range
     requires { n ≤ most_slots }
     ensures { result ≡ ends_of part n }
@@ -157,36 +148,25 @@ fn ends_of(part: Part, n: usize) -> Range
         Part::Density => record_range(COUNTS + n),
         Part::Terms => record_range(COUNTS + DENSITY + n),
         Part::Widths => WIDTHS,
-        Part::Slots { block: _ } => range_of(n),
+        Part::Slots { .. } => range_of(n),
     }
 }
 
 // What a number of a part is refused with outside its ends.
+#[tactic(auto, unfolding(crate::specs::Fields::part_refusal))]
 fn part_refusal(part: Part) -> Refusal
-    ensures { result ≡ part_refusal part }
+    ensures { refusal_of result ≡ part_refusal part }
 {
     match part {
-        Part::Counts => Refusal {
-            number: 3,
-            block: 0,
-        },
-        Part::Density => Refusal {
-            number: 4,
-            block: 0,
-        },
-        Part::Terms => Refusal {
-            number: 4,
-            block: 0,
-        },
-        Part::Widths => Refusal {
-            number: 5,
-            block: 0,
-        },
-        Part::Slots { block } => Refusal { number: 6, block },
+        Part::Counts => Refusal::Counts,
+        Part::Density | Part::Terms => Refusal::Terms,
+        Part::Widths => Refusal::Widths,
+        Part::Slots { block } => Refusal::Slots { block },
     }
 }
 
 // What a number means that is sent for a field with a lower end: a field that can be below zero is signed. Inner: the number has at most five bytes.
+#[tactic(auto, unfolding(crate::specs::Fields::meant_of))]
 fn meant(n: u64, lower: i64) -> i64
     requires { n < 2 ^ 35 }
     ensures { result ≡ meant_of lower n }
@@ -194,50 +174,44 @@ fn meant(n: u64, lower: i64) -> i64
     if lower < 0 { signed(n) } else { n as i64 }
 }
 
-// A number within its ends, with the place after it, or the refusal.
-fn judged_in(value: i64, next: usize, ends: Range, refusal: Refusal) -> Got
-    ensures { result ≡ judged_in value next ends refusal }
+// What a file is refused with where no number stands.
+fn unread(error: NumberError) -> Refusal
+    ensures { refusal_of result ≡ unread_of error }
 {
-    if in_range(ends, value) {
-        return Got::Value { value, next };
+    match error {
+        NumberError::Ended => Refusal::Ended,
+        NumberError::TooLong => Refusal::TooLong,
     }
-    Got::Refused { refusal }
 }
 
 // A number that is sent, at a place of the file: "1 or 2, then its range". It is the one after n of its part. Inner: n is at most 8,192.
-fn sent_at(file: &[u8], at: usize, part: Part, n: usize) -> Got
+#[tactic(auto, unfolding(crate::specs::Fields::number_judged, crate::specs::Fields::judged_in))]
+fn sent_at(file: &[u8], at: usize, part: Part, n: usize) -> Result<Field, Refusal>
     requires { n ≤ most_slots }
-    ensures { result ≡ number_judged (number_at file.now at) (ends_of part n) (part_refusal part) }
+    ensures { got_in result ≡ number_judged (number_at file.now at) (ends_of part n) (part_refusal part) }
 {
-    match read_number(file, at) {
-        Number::Ended => Got::Refused {
-            refusal: Refusal {
-                number: 1,
-                block: 0,
-            },
-        },
-        Number::TooLong => Got::Refused {
-            refusal: Refusal {
-                number: 2,
-                block: 0,
-            },
-        },
-        Number::Value { value, next } => {
-            let ends = ends_of(part, n);
-            let means = meant(value, ends.lower);
-            judged_in(means, next, ends, part_refusal(part))
-        }
+    let number = read_number(file, at).map_err(unread)?;
+    let ends = ends_of(part, n);
+    let value = meant(number.value, ends.lower);
+    if !in_range(ends, value) {
+        return Err(part_refusal(part));
     }
+    Ok(Field {
+        value,
+        next: number.next,
+    })
 }
 
 // The next number of a part, from a place, after the numbers so far; one that is not sent is 0. Inner: there are at most
 // 8,192 of them.
-pub fn field_at(file: &[u8], at: usize, part: Part, done: &[i64]) -> Got
+#[tactic(auto, unfolding(crate::specs::Fields::field_at))]
+pub fn field_at(file: &[u8], at: usize, part: Part, done: &[i64]) -> Result<Field, Refusal>
     requires { length done.now ≤ most_slots }
-    ensures { result ≡ field_at part file.now at done.now }
+    ensures { got_in result ≡ field_at part file.now at done.now }
 {
     if is_sent(part, done) {
-        return sent_at(file, at, part, done.len());
+        sent_at(file, at, part, done.len())
+    } else {
+        Ok(Field { value: 0, next: at })
     }
-    Got::Value { value: 0, next: at }
 }

@@ -9,7 +9,7 @@ ghost use Rattle.flow.specs.Inner.{Width, FaceIn, SideIn, BehindIn};
 
 use super::litres::{leaving, litres};
 use block::units::TICKS;
-use whole::{floor_div, greatest, is_zero};
+use whole::floor_div;
 
 // The widths at a face, metres: of the two blocks along the line, and across it.
 #[derive(Clone, Copy)]
@@ -43,13 +43,14 @@ pub fn face_k(face: Face, low: i64, high: i64) -> i64
     requires fact_2 { In (pos 1) (pos most_fluid_k) high }
     ensures { result ≡ face_k_of face low high }
 {
-    if is_zero(low - high) {
-        return low;
+    if low == high {
+        low
+    } else {
+        floor_div(
+            (face.low + face.high) * low * high,
+            face.low * high + face.high * low,
+        )
     }
-    floor_div(
-        (face.low + face.high) * low * high,
-        face.low * high + face.high * low,
-    )
 }
 
 // "conductance C = floor(2·Kf·B·W / ((L1+L2)·4,096)) for face thickness B", litres a day for each metre of head difference.
@@ -68,6 +69,7 @@ pub fn conductance(face: Face, k: i64, thickness: i64) -> i64
 
 // The thickness at a tip, ticks: that of the one block which holds the fluid, less what it loses towards the tip at the slope from the
 // block behind. Inner: widths and thicknesses are in range.
+#[tactic(auto, unfolding(crate::specs::Lateral::tip_of))]
 fn tip_thickness(width: i64, thickness: i64, behind: Behind) -> i64
     requires width { Width width }
     requires fact { In (pos 0) (pos most_thickness) thickness }
@@ -75,14 +77,17 @@ fn tip_thickness(width: i64, thickness: i64, behind: Behind) -> i64
     ensures { result ≡ tip_of width thickness behind }
 {
     if 0 < behind.thickness {
-        let rise = greatest(0, behind.thickness - thickness);
-        return greatest(0, thickness - floor_div(rise * width, behind.width + width));
+        let rise = (behind.thickness - thickness).max(0);
+        let lost = floor_div(rise * width, behind.width + width);
+        (thickness - lost).max(0)
+    } else {
+        0
     }
-    0
 }
 
 // "face thickness B", ticks: the mean where both blocks hold the fluid, the tip's where one does, 0 where neither. `behind` is the block
 // behind the one that holds it. Inner: widths and thicknesses are in range.
+#[tactic(auto, unfolding(crate::specs::Lateral::face_thickness_of))]
 fn face_thickness(face: Face, low: i64, high: i64, behind: Behind) -> i64
     requires face_in { FaceIn face }
     requires fact { In (pos 0) (pos most_thickness) low }
@@ -90,16 +95,15 @@ fn face_thickness(face: Face, low: i64, high: i64, behind: Behind) -> i64
     requires behind_in { BehindIn behind }
     ensures { result ≡ face_thickness_of face low high behind }
 {
-    if 0 < low {
-        if 0 < high {
-            return floor_div(low + high, 2);
-        }
-        return tip_thickness(face.low, low, behind);
+    if 0 < low && 0 < high {
+        floor_div(low + high, 2)
+    } else if 0 < low {
+        tip_thickness(face.low, low, behind)
+    } else if 0 < high {
+        tip_thickness(face.high, high, behind)
+    } else {
+        0
     }
-    if 0 < high {
-        return tip_thickness(face.high, high, behind);
-    }
-    0
 }
 
 // The flow of one fluid through a face, litres a day, positive from the low to the high side: "No flow leaves the block without the

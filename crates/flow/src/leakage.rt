@@ -23,6 +23,7 @@ pub struct LeakageSide {
 
 // The fluid at a block's top, which is named for it as the lower block: "fresh if its Bf > 0, else salt". Inner: the thicknesses are in
 // range.
+#[tactic(auto, unfolding(crate::specs::Leakage::uppermost_of))]
 pub fn uppermost(thickness: Fluids) -> usize
     requires { Thick thickness }
     ensures { result ≡ uppermost_of thickness }
@@ -32,6 +33,7 @@ pub fn uppermost(thickness: Fluids) -> usize
 
 // The fluid at a block's base, which is named for it as the upper block: "salt if its Bs > 0, else fresh". Inner: the thicknesses are in
 // range.
+#[tactic(auto, unfolding(crate::specs::Leakage::lowermost_of))]
 pub fn lowermost(thickness: Fluids) -> usize
     requires { Thick thickness }
     ensures { result ≡ lowermost_of thickness }
@@ -48,9 +50,10 @@ pub fn fresh_head(g: Grid, heads: Fluids, fluid: usize, level: i64) -> i64
     ensures { result ≡ fresh_head_of g heads fluid level }
 {
     if fluid == FRESH {
-        return heads.fresh;
+        heads.fresh
+    } else {
+        fresh_equivalent(g, heads.salt, level)
     }
-    fresh_equivalent(g, heads.salt, level)
 }
 
 // The head difference, lower less upper, ticks, where `low` is the fluid named for the lower block and `high` that for the upper: "Like
@@ -66,9 +69,10 @@ fn difference(g: Grid, lower: Fluids, upper: Fluids, low: usize, high: usize, le
     ensures { result ≡ difference_of g lower upper low high level }
 {
     if low == high {
-        return in_fluid(lower, low) - in_fluid(upper, high);
+        in_fluid(lower, low) - in_fluid(upper, high)
+    } else {
+        fresh_head(g, lower, low, level) - fresh_head(g, upper, high, level)
     }
-    fresh_head(g, lower, low, level) - fresh_head(g, upper, high, level)
 }
 
 // The leakage from a lower to an upper block, litres a day, `conductance` being in litres a day for each metre of head difference and `level`, in

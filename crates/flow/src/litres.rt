@@ -21,19 +21,12 @@ pub fn litres(conductance: i64, difference: i64) -> i64
 
 // A flow from the low to the high side, or nothing where the block that it would leave holds none: `low` and `high` are the thicknesses
 // of what flows, in ticks.
+#[tactic(auto, unfolding(crate::specs::Litres::leaving_of))]
 pub fn leaving(low: i64, high: i64, flow: i64) -> i64
     ensures { result ≡ leaving_of low high flow }
 {
-    if 0 < flow {
-        if 0 < low {
-            return flow;
-        }
-        return 0;
-    }
-    if 0 < high {
-        return flow;
-    }
-    0
+    let left = if 0 < flow { low } else { high };
+    if 0 < left { flow } else { 0 }
 }
 
 // "floor(leakance·area/1,000)" and "floor(rate·area/1,000)", of 10^-6 a day or µm/day and m²: litres a day for each metre of

@@ -6,8 +6,8 @@ use Prim.Native.Nat.{◌+◌, ◌-◌, ◌<◌, ℕ}
 use native.Mathlib.Omega.{arith}
 use lib.Dec.{T}
 use borrow.Author.Tests.{le-ltb, ltb-false}
+use Rattle.std.specs.Prelude.{Some, None}
 use Rattle.grid.specs.declared.Grid.{Grid}
-use Rattle.grid.specs.declared.place.Neighbour.TheVariants.{At, Outside}
 use Rattle.grid.specs.Meaning.{Beside}
 use Rattle.grid.specs.Inner.{Counted}
 use Rattle.grid.specs.Place.{behind_of, blocks_of, coordinate_of, extent_of, has_next, has_previous, neighbour_of, next_of, place_of, previous_of, stride_of}
@@ -29,8 +29,8 @@ neighbours g counted d i j axis l m = (joined, touching)
 -- "let p be the block on a's other side": p touches a on the side away from the face. Behind the low side a = i of the link (d, i) it is the block that a
 -- comes next after along the axis, behind the high side a = i + stride the block that comes next after a.
 pub behind_away : (g : Grid) → Counted g → (d i p : ℕ) → d < 3 → p < blocks_of g
-    → (i < blocks_of g → (behind_of g d i true ≡ At p) ↔ Beside g d p i)
-    × (i + stride_of g d < blocks_of g → (behind_of g d i false ≡ At p) ↔ Beside g d (i + stride_of g d) p)
+    → (i < blocks_of g → (behind_of g d i true ≡ Some p) ↔ Beside g d p i)
+    × (i + stride_of g d < blocks_of g → (behind_of g d i false ≡ Some p) ↔ Beside g d (i + stride_of g d) p)
 unfolding behind_of neighbour_of
 behind_away g counted d i p axis m =
     let a : ℕ = i + stride_of g d in
@@ -42,8 +42,8 @@ behind_away g counted d i p axis m =
 
 -- There is no p exactly where a, as the low side, is the first block along the axis or, as the high side, the last.
 pub behind_outside : (g : Grid) → Counted g → (d i : ℕ)
-    → ((behind_of g d i true ≡ Outside) ↔ (coordinate_of (place_of g i) d ≡ 0))
-    × (i + stride_of g d < blocks_of g → (behind_of g d i false ≡ Outside) ↔ (coordinate_of (place_of g (i + stride_of g d)) d + 1 ≡ extent_of g d))
+    → ((behind_of g d i true ≡ None) ↔ (coordinate_of (place_of g i) d ≡ 0))
+    × (i + stride_of g d < blocks_of g → (behind_of g d i false ≡ None) ↔ (coordinate_of (place_of g (i + stride_of g d)) d + 1 ≡ extent_of g d))
 unfolding behind_of neighbour_of previous_of has_previous next_of has_next
 behind_outside g counted d i =
     let a : ℕ = i + stride_of g d in

@@ -1,5 +1,8 @@
 -- What the record of a case tells where it is not refused, and what tells that it is not. Assumes nothing.
 use mathlib.Core.Bool.{Bool, ◌&&◌, cond, false, true}
+use mathlib.Core.Path.{◌≡◌}
+use mir.Syntax.{w64}
+use mir.Val.{SFits}
 use Prim.Native.Nat.{ℕ, ◌≤◌}
 use lib.Dec.{T, leb, leb→le, le→leb}
 use lib.IntN.{◌-ℤ◌, pos, ℤ}
@@ -9,6 +12,7 @@ use Rattle.whole.specs.Inner.{In}
 use Rattle.whole.specs.Ranges.{between, in_range}
 use Rattle.whole.specs.Whole.{is_zero}
 use Rattle.whole.proofs.LinearLaws.{#, from1, from2, linear, signed}
+use Rattle.whole.proofs.RangeLaws.{fits, leaf, ranges}
 use Rattle.whole.proofs.SearchLaws.{both, holds, joint}
 use Rattle.whole.proofs.WithinLaws.{range_in, in_ranged}
 use Rattle.grid.specs.declared.Grid.{Grid}
@@ -59,6 +63,14 @@ pair_weighed fresh salt t =
       spread = from2 a.high d (search (signed, # f, # s) depth 30) (omega arith);
     }
 
+-- and one can be subtracted from the other
+pub apart_fits : (fresh salt : ℤ) → in_range (between (pos least_fresh_weight) (pos most_fresh_weight)) fresh ≡ true
+    → in_range (between (pos least_salt_weight) (pos most_salt_weight)) salt ≡ true → SFits w64 (salt -ℤ fresh)
+apart_fits fresh salt e f =
+    let a = range_in (between (pos least_fresh_weight) (pos most_fresh_weight)) fresh (holds e) in
+    let b = range_in (between (pos least_salt_weight) (pos most_salt_weight)) salt (holds f) in
+    fits (search (ranges, leaf a, leaf b) depth 20) tt
+
 -- so is a whole δ
 whole_weighed : (δ : ℤ) → In (pos 1) (pos most_delta) δ → Weighed (whole_pair δ)
 whole_weighed δ h = record {
@@ -82,6 +94,9 @@ density_weighed g = go (is_zero g.delta)
     go : (b : Bool) → T (cond b (pair_holds g.fresh_weight g.salt_weight) (deltas && none)) → Weighed (cond b (pair_of g.fresh_weight g.salt_weight) (whole_pair g.delta))
     go true t = pair_weighed g.fresh_weight g.salt_weight t
     go false t = whole_weighed g.delta (range_in (between (pos 1) (pos most_delta)) g.delta (both deltas none t).0)
+
+pub counted_where : (g : Grid) → counts_hold g ≡ true → Counted g
+counted_where g e = counts_counted g (holds e)
 
 pub terms_termed : (g : Grid) → T (terms_hold g) → Termed g
 unfolding terms_hold

@@ -12,22 +12,16 @@ use lib.Arith.{digits_div, digits_lt, digits_mod}
 use lib.Dec.{T, eqb, leb, leb→le, le→leb, ltb, ltb→lt, lt→ltb}
 use lib.IntN.{ℤ}
 use borrow.Author.Tests.{eq-eqb, le-leb, lt-leb, ltb-false, ne_eqb}
+use Rattle.std.specs.Prelude.{Some, None}
 use Rattle.whole.specs.Sum.{back, only}
 use Rattle.whole.proofs.SearchLaws.{both, holds, joint, same_test}
 use Rattle.whole.proofs.SumLaws.{only_and}
 use Rattle.grid.specs.declared.Grid.{Grid}
 use Rattle.grid.specs.declared.place.Place.{Place}
-use Rattle.grid.specs.declared.place.Neighbour.TheVariants.{At, Outside}
 use Rattle.grid.specs.Meaning.{Beside}
 use Rattle.grid.specs.Inner.{Counted, Inside, block_at, earlier_of}
 use Rattle.grid.specs.Place.{behind_of, blocks_of, coordinate_of, extent_of, has_next, has_previous, neighbour_of, next_of, place_of, previous_of, stride_of, there, top_of}
 use Rattle.grid.specs.Units.{above}
-
--- an axis that is neither 0 nor 1 leads above
-pub above_axis : (d : ℕ) → (d ≡ 0 → ⊥) → (d ≡ 1 → ⊥) → (e : ℕ) × (d ≡ suc (suc e))
-above_axis zero h k = absurd (h refl)
-above_axis (suc zero) h k = absurd (k refl)
-above_axis (suc (suc e)) h k = (e, refl)
 
 -- ---- block and place
 
@@ -82,10 +76,6 @@ module _ (g : Grid) where
   moved_inside p (suc (suc d)) i t = record { column = i.column; row = i.row; layer = ltb→lt _ _ t }
 
 -- one step back
-pub some_before : (p : Place) (d : ℕ) → has_previous p d ≡ true → 1 ≤ coordinate_of p d
-unfolding has_previous
-some_before p d e = ltb→lt 0 (coordinate_of p d) (holds e)
-
 on_again : (n : ℕ) → T (ltb 0 n) → n - 1 + 1 ≡ n
 on_again n t = omega (arith, ltb→lt 0 n t)
 
@@ -198,21 +188,21 @@ module _ (g : Grid) (counted : Counted g) (d i : ℕ) (l : i < blocks_of g) wher
       subst (λ (k : ℕ). T (has_previous (place_of g k) d)) e (rw (next_place g counted d (i - stride_of g d) (omega arith) t) (moved_has (place_of g (i - stride_of g d)) d))
 
 -- what is there, and what is not
-pub there_at : (b : Bool) (i p : ℕ) → (there b i ≡ At p) ↔ (T b × (p ≡ i))
-there_at true i p = (λ e. (tt, cc), λ h. ap At (sym h.1))
+pub there_at : (b : Bool) (i p : ℕ) → (there b i ≡ Some p) ↔ (T b × (p ≡ i))
+there_at true i p = (λ e. (tt, cc), λ h. ap Some (sym h.1))
 there_at false i p = (λ e. let z : ◌≡◌ {A = ℕ} 0 1 = cc in absurd (omega arith), λ h. absurd h.0)
 
-pub there_outside : (b : Bool) (i : ℕ) → (there b i ≡ Outside) ↔ (b ≡ false)
+pub there_outside : (b : Bool) (i : ℕ) → (there b i ≡ None) ↔ (b ≡ false)
 there_outside true i = (λ e. let z : ◌≡◌ {A = ℕ} 0 1 = cc in absurd (omega arith), λ e. let z : ◌≡◌ {A = ℕ} 0 1 = cc in absurd (omega arith))
 there_outside false i = (λ e. refl, λ e. refl)
 
 -- the block across a link, and so the block behind one, is inside
-pub across_inside : (g : Grid) → Counted g → (d i p : ℕ) (on : Bool) → i < blocks_of g → neighbour_of g d i on ≡ At p → p < blocks_of g
+pub across_inside : (g : Grid) → Counted g → (d i p : ℕ) (on : Bool) → i < blocks_of g → neighbour_of g d i on ≡ Some p → p < blocks_of g
 unfolding neighbour_of
 across_inside g counted d i p true l e = let h = (there_at (next_of g d i) (i + stride_of g d) p).0 e in rw h.1 (next_inside g counted d i l h.0)
 across_inside g counted d i p false l e = omega (arith, ((there_at (previous_of g d i) (i - stride_of g d) p).0 e).1)
 
-pub behind_inside : (g : Grid) → Counted g → (d i p : ℕ) (low : Bool) → i + stride_of g d < blocks_of g → behind_of g d i low ≡ At p → p < blocks_of g
+pub behind_inside : (g : Grid) → Counted g → (d i p : ℕ) (low : Bool) → i + stride_of g d < blocks_of g → behind_of g d i low ≡ Some p → p < blocks_of g
 unfolding behind_of
 behind_inside g counted d i p true l e = across_inside g counted d i p false (omega (arith, l)) e
 behind_inside g counted d i p false l e = across_inside g counted d (i + stride_of g d) p true l e

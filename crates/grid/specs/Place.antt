@@ -1,9 +1,7 @@
 -- Where a block lies, and its links (document 01, "Units and ranges"). A block is its number less 1.
-use Rattle.std.specs.Prelude.{Bool, false, true, ◌%◌, ◌*◌, ◌+◌, ◌-◌, ◌/◌, suc, zero, ℕ, eqb, ltb}
+use Rattle.std.specs.Prelude.{Bool, false, true, ◌%◌, ◌*◌, ◌+◌, ◌-◌, ◌/◌, suc, zero, ℕ, eqb, ltb, Option, Some, None}
 use Rattle.grid.specs.declared.Grid.{Grid}
-use Rattle.grid.specs.declared.place.Neighbour.{Neighbour}
 use Rattle.grid.specs.declared.place.Place.{Place}
-use Rattle.grid.specs.declared.place.Neighbour.TheVariants.{At, Outside}
 
 -- the block total of a grid
 abbrev pub blocks_of : Grid → ℕ
@@ -54,16 +52,16 @@ unfoldable pub previous_of : Grid → ℕ → ℕ → Bool
 previous_of g d i = has_previous (place_of g i) d
 
 -- the block, where the link is there
-abbrev pub there : Bool → ℕ → Neighbour
-there true i = At i
-there false i = Outside
+abbrev pub there : Bool → ℕ → Option ℕ
+there true i = Some i
+there false i = None
 
 -- the block across the link that leads on from block i, or across the link that ends in it
-unfoldable pub neighbour_of : Grid → ℕ → ℕ → Bool → Neighbour
+unfoldable pub neighbour_of : Grid → ℕ → ℕ → Bool → Option ℕ
 neighbour_of g d i true = there (next_of g d i) (i + stride_of g d)
 neighbour_of g d i false = there (previous_of g d i) (i - stride_of g d)
 
 -- "let p be the block on a's other side", for the low or the high side a of the link (d, i)
-unfoldable pub behind_of : Grid → ℕ → ℕ → Bool → Neighbour
+unfoldable pub behind_of : Grid → ℕ → ℕ → Bool → Option ℕ
 behind_of g d i true = neighbour_of g d i false
 behind_of g d i false = neighbour_of g d (i + stride_of g d) true

@@ -8,7 +8,6 @@ use super::units::{
     MOST_FRESH_WEIGHT, MOST_LAYERS, MOST_SALT_WEIGHT, MOST_STEP, MOST_TOLERANCE,
 };
 use whole::ranges::{Range, in_range};
-use whole::{both_zero, is_zero};
 
 // δ, whole.
 const DELTAS: Range = Range {
@@ -44,58 +43,44 @@ const TOLERANCES: Range = Range {
 fn count_within(n: usize, most: usize) -> bool
     ensures { result ≡ count_within n most }
 {
-    1 <= n && n <= most
+    (1..=most).contains(&n)
 }
 
 // 3: "a count or the block total is out of range". The total is worked out only of counts that are in range.
+#[tactic(auto, unfolding(crate::specs::Judging::counts_hold))]
 pub fn counts_hold(g: Grid) -> bool
     ensures { result ≡ counts_hold g }
 {
-    if count_within(g.columns, MOST_ACROSS) {
-        if count_within(g.rows, MOST_ACROSS) {
-            if count_within(g.layers, MOST_LAYERS) {
-                return g.columns * g.rows * g.layers <= MOST_BLOCKS;
-            }
-        }
-    }
-    false
+    count_within(g.columns, MOST_ACROSS)
+        && count_within(g.rows, MOST_ACROSS)
+        && count_within(g.layers, MOST_LAYERS)
+        && g.columns * g.rows * g.layers <= MOST_BLOCKS
 }
 
 // Two weights, grams a litre: "fresh weight 990..=1,010 and salt weight 1,011..=1,050, at least 5 apart". They are subtracted only where they are in range.
+#[tactic(auto, using(crate::proofs::JudgingLaws::apart_fits, whole::proofs::RangeLaws::read_back), unfolding(crate::specs::Judging::pair_holds))]
 fn pair_holds(fresh: i64, salt: i64) -> bool
     ensures { result ≡ pair_holds fresh salt }
 {
-    if in_range(FRESH_WEIGHTS, fresh) {
-        if in_range(SALT_WEIGHTS, salt) {
-            return LEAST_APART <= salt - fresh;
-        }
-    }
-    false
+    in_range(FRESH_WEIGHTS, fresh) && in_range(SALT_WEIGHTS, salt) && LEAST_APART <= salt - fresh
 }
 
 // 4, of what the waters weigh: a δ of 0 with two weights, or a whole δ with none.
+#[tactic(auto, unfolding(crate::specs::Judging::density_holds))]
 pub fn density_holds(g: Grid) -> bool
     ensures { result ≡ density_holds g }
 {
-    if is_zero(g.delta) {
-        return pair_holds(g.fresh_weight, g.salt_weight);
+    if g.delta == 0 {
+        pair_holds(g.fresh_weight, g.salt_weight)
+    } else {
+        in_range(DELTAS, g.delta) && g.fresh_weight == 0 && g.salt_weight == 0
     }
-    if in_range(DELTAS, g.delta) {
-        return both_zero(g.fresh_weight, g.salt_weight);
-    }
-    false
 }
 
 // 4: "δ, flag, step or tolerance is out of range", and the weights "judged right after δ".
+#[tactic(auto, unfolding(crate::specs::Judging::terms_hold))]
 pub fn terms_hold(g: Grid) -> bool
     ensures { result ≡ terms_hold g }
 {
-    if density_holds(g) {
-        if g.flag <= 1 {
-            if in_range(STEPS, g.step) {
-                return in_range(TOLERANCES, g.tolerance);
-            }
-        }
-    }
-    false
+    density_holds(g) && g.flag <= 1 && in_range(STEPS, g.step) && in_range(TOLERANCES, g.tolerance)
 }

@@ -8,7 +8,7 @@ pub mod units;
 pub mod weights;
 
 // The record of a case. It may hold any numbers: `judging` says which are refused.
-#[derive(Clone, Copy)]
+#[derive(Clone, Copy, Debug, PartialEq, Eq)]
 pub struct Grid {
     // How many columns, rows and layers the grid has.
     pub columns: usize,

@@ -8,18 +8,11 @@ use super::Grid;
 use super::units::ABOVE;
 
 // Column, row and layer, each counted from 0; layer 0 is the deepest.
-#[derive(Clone, Copy)]
+#[derive(Clone, Copy, Debug, PartialEq, Eq)]
 pub struct Place {
     pub column: usize,
     pub row: usize,
     pub layer: usize,
-}
-
-// The block across a link, if the link is there.
-#[derive(Clone, Copy)]
-pub enum Neighbour {
-    At(usize),
-    Outside,
 }
 
 // How many blocks the grid has. Inner: the counts are in range.
@@ -31,6 +24,7 @@ pub fn blocks(g: Grid) -> usize
 }
 
 // The place of a block. Inner: the counts are in range.
+#[tactic(auto, unfolding(crate::specs::Place::place_of))]
 pub fn place_of(g: Grid, block: usize) -> Place
     requires { Counted g }
     ensures { result ≡ place_of g block }
@@ -44,6 +38,7 @@ pub fn place_of(g: Grid, block: usize) -> Place
 }
 
 // Whether a block lies in the top layer. Inner: the counts are in range and the block is inside.
+#[tactic(auto, using(crate::proofs::PlaceLaws::top_outside))]
 pub fn is_top(g: Grid, block: usize) -> bool
     requires counted { Counted g }
     requires block_bound { block < blocks_of g }
@@ -87,15 +82,17 @@ pub fn stride(g: Grid, axis: usize) -> usize
 }
 
 // Whether a block follows this one along the axis.
+#[tactic(auto, unfolding(crate::specs::Place::has_next))]
 pub fn has_next(g: Grid, place: Place, axis: usize) -> bool
     ensures { result ≡ has_next g place axis }
 {
     let at = coordinate(place, axis);
     let most = extent(g, axis);
-    if at < most { at + 1 < most } else { false }
+    at < most && at + 1 < most
 }
 
 // Whether a block comes before this one along the axis.
+#[tactic(auto, unfolding(crate::specs::Place::has_previous))]
 pub fn has_previous(place: Place, axis: usize) -> bool
     ensures { result ≡ has_previous place axis }
 {
@@ -103,6 +100,7 @@ pub fn has_previous(place: Place, axis: usize) -> bool
 }
 
 // The place one step back along the axis. Inner: a block comes before this one.
+#[tactic(auto, unfolding(crate::specs::Place::has_previous))]
 pub fn earlier(place: Place, axis: usize) -> Place
     requires { has_previous place axis ≡ true }
     ensures { result ≡ earlier_of place axis }
@@ -110,45 +108,39 @@ pub fn earlier(place: Place, axis: usize) -> Place
     match axis {
         0 => Place {
             column: place.column - 1,
-            row: place.row,
-            layer: place.layer,
+            ..place
         },
         1 => Place {
-            column: place.column,
             row: place.row - 1,
-            layer: place.layer,
+            ..place
         },
         _ => Place {
-            column: place.column,
-            row: place.row,
             layer: place.layer - 1,
+            ..place
         },
     }
 }
 
-// The block across the link that leads on from this one along the axis, or across the link that ends in it.
+// The block across the link that leads on from this one along the axis, or across the link that ends in it; none where that link is not there.
 // Inner: the counts are in range and the block is inside.
-pub fn across(g: Grid, block: usize, axis: usize, on: bool) -> Neighbour
+#[tactic(auto, using(crate::proofs::PlaceLaws::next_inside, crate::proofs::PlaceLaws::previous_low), unfolding(crate::specs::Place::neighbour_of, crate::specs::Place::next_of, crate::specs::Place::previous_of))]
+pub fn across(g: Grid, block: usize, axis: usize, on: bool) -> Option<usize>
     requires counted { Counted g }
     requires block_bound { block < blocks_of g }
     ensures { result ≡ neighbour_of g axis block on }
 {
     let place = place_of(g, block);
     if on {
-        if has_next(g, place, axis) {
-            return Neighbour::At(block + stride(g, axis));
-        }
-        return Neighbour::Outside;
+        has_next(g, place, axis).then(|| block + stride(g, axis))
+    } else {
+        has_previous(place, axis).then(|| block - stride(g, axis))
     }
-    if has_previous(place, axis) {
-        return Neighbour::At(block - stride(g, axis));
-    }
-    Neighbour::Outside
 }
 
 // "let p be the block on a's other side": the block behind the low or the high side of the link that leads on from this block.
 // Inner: the counts are in range and both ends are inside.
-pub fn behind(g: Grid, block: usize, axis: usize, low: bool) -> Neighbour
+#[tactic(auto, unfolding(crate::specs::Place::behind_of))]
+pub fn behind(g: Grid, block: usize, axis: usize, low: bool) -> Option<usize>
     requires counted { Counted g }
     requires axis_bound { block + stride_of g axis < blocks_of g }
     ensures { result ≡ behind_of g axis block low }

@@ -4,28 +4,29 @@ ghost use Rattle.grid.specs.Inner.{Termed};
 ghost use Rattle.grid.specs.Weights.{weights_of};
 
 use super::Grid;
-use whole::is_zero;
 
 // The weights of the two waters, both in one unit.
-#[derive(Clone, Copy)]
+#[derive(Clone, Copy, Debug, PartialEq, Eq)]
 pub struct Weights {
     pub fresh: i64,
     pub salt: i64,
 }
 
 // The two weights in grams a litre where δ is 0; otherwise "A whole δ is the pair δ and δ+1". Inner: the record is in range.
+#[tactic(auto, unfolding(crate::specs::Weights::weights_of))]
 pub fn weights_of(g: Grid) -> Weights
     requires { Termed g }
     ensures { result ≡ weights_of g }
 {
-    if is_zero(g.delta) {
-        return Weights {
+    if g.delta == 0 {
+        Weights {
             fresh: g.fresh_weight,
             salt: g.salt_weight,
-        };
-    }
-    Weights {
-        fresh: g.delta,
-        salt: g.delta + 1,
+        }
+    } else {
+        Weights {
+            fresh: g.delta,
+            salt: g.delta + 1,
+        }
     }
 }

@@ -1,30 +1,23 @@
 -- What is answered, by the tests that the code makes. Assumes nothing.
-use mathlib.Core.Bool.{Bool, cond, false, not, true, true≢false}
+use mathlib.Core.Bool.{cond, false, true, true≢false}
 use mathlib.Core.Logic.{◌⊎◌}
-use mathlib.Core.Path.{◌∙◌, ◌≡◌, ap, sym}
+use mathlib.Core.Path.{◌∙◌, ◌≡◌, ap, refl, sym}
 use Prim.Native.Nat.{◌<◌, ◌≤◌, ℕ}
 use lib.Dec.{T}
-use lib.Ieee.{Float, binary64, fin, fits, inf, is_nan, nan, ne, of_bits, to_bits}
+use lib.Ieee.{Float, binary64, fin, fits, inf, is_nan, nan, of_bits, to_bits}
 use lib.Ieee.Bits.{of_bits-to_bits}
-use lib.Ieee.Compare.{differs_from_itself, nan_differs}
 use lib.Ieee.Scale.{finite}
 use lib.IntN.{neg_ℤ, pos, ℤ}
 use lib.Signed.{◌<ℤ◌, ◌≤ℤ◌}
-use Rattle.whole.specs.declared.ranges.Range.{Range}
-use Rattle.whole.specs.Ranges.{between, in_range}
-use Rattle.whole.specs.Inner.{In}
+use Rattle.whole.specs.Ranges.{between}
+use Rattle.whole.specs.Inner.{Abs, In}
 use Rattle.whole.proofs.SearchLaws.{holds}
-use Rattle.whole.proofs.WithinLaws.{in_ranged, out_ranged}
+use Rattle.whole.proofs.WithinLaws.{in_ranged, out_ranged, range_in}
 use Rattle.slots.specs.Units.{most_level}
 use Rattle.slices.specs.Slices.{none, refusal}
-use Rattle.metres.specs.declared.Taken.{Taken}
-use Rattle.metres.specs.Metres.{is_shown, is_taken, metres_of, shown, shown_of, taken, taken_of, tick_of, zero_metres}
+use Rattle.metres.specs.Metres.{Taken, is_shown, is_taken, metres_of, most_shown, shown, shown_of, taken, taken_of, tick_of, zero_metres}
 use Rattle.metres.specs.Inner.{far, field_of}
 use Rattle.metres.proofs.TakenLaws.{passes, taken_by_tick, taken_far, taken_finite}
-
--- a test of a range q, which is r, where the machine reads the number t back as z
-pub ranged : {q : Range} (r : Range) {z t : ℤ} {b w : Bool} → q ≡ r → z ≡ t → b ≡ in_range q z → b ≡ w → in_range r t ≡ w
-ranged r p e d h = sym (λ i. in_range (p i) (e i)) ∙ sym d ∙ h
 
 -- ---- shown
 
@@ -32,9 +25,9 @@ pub is_shown_lem : (t : ℤ) (x : Float) → is_shown t ≡ true → x ≡ metre
 unfolding shown_of
 is_shown_lem t x h e = ap (shown none) e ∙ sym (ap (λ b. cond b (shown none (metres_of t)) (shown (refusal 12 0) zero_metres)) h)
 
-pub not_shown : (t : ℤ) → is_shown t ≡ false → shown (refusal 12 0) (of_bits binary64 0) ≡ shown_of t
-unfolding shown_of of_bits
-not_shown t h = sym (ap (λ b. cond b (shown none (metres_of t)) (shown (refusal 12 0) zero_metres)) h)
+-- a tick that is shown is below 2⁵³ without sign
+pub shown_abs : (t : ℤ) → is_shown t ≡ true → Abs most_shown t
+shown_abs t h = range_in (between (neg_ℤ (pos most_shown)) (pos most_shown)) t (holds h)
 
 -- ---- taken in
 
@@ -42,11 +35,11 @@ abbrev refused : Taken
 refused = taken (refusal 12 0) (pos 0)
 
 -- a double that is taken, and one that is not
-is_taken_lem : (most : ℤ) (x : Float) → is_taken most x ≡ true → taken none (tick_of x) ≡ taken_of most x
+pub is_taken_lem : (most : ℤ) (x : Float) → is_taken most x ≡ true → taken none (tick_of x) ≡ taken_of most x
 unfolding taken_of
 is_taken_lem most x h = sym (ap (λ b. cond b (taken none (tick_of x)) refused) h)
 
-not_taken : (most : ℤ) (x : Float) → is_taken most x ≡ false → refused ≡ taken_of most x
+pub not_taken : (most : ℤ) (x : Float) → is_taken most x ≡ false → refused ≡ taken_of most x
 unfolding taken_of
 not_taken most x h = sym (ap (λ b. cond b (taken none (tick_of x)) refused) h)
 
@@ -57,16 +50,12 @@ taken_value most x f h = sym (is_taken_lem most x (taken_finite most x f ∙ in_
 pub refused_value : (most : ℤ) (x : Float) → T (finite x) → (tick_of x <ℤ neg_ℤ (pos most_level)) ⊎ (most <ℤ tick_of x) → taken_of most x ≡ refused
 refused_value most x f h = sym (not_taken most x (taken_finite most x f ∙ out_ranged (between (neg_ℤ (pos most_level)) most) (tick_of x) h))
 
--- the test for what is no number
-pub refused_nan : (most : ℤ) (x : Float) → ne x x ≡ true → refused ≡ taken_of most x
-unfolding is_taken
-refused_nan most x h = not_taken most x (ap (is_taken most) (differs_from_itself x (holds h)))
-
-pub no_nan : (x : Float) → ne x x ≡ false → T (not (is_nan x))
-unfolding is_nan
-no_nan nan h = absurd (true≢false (sym nan_differs ∙ h))
-no_nan (inf s) h = tt
-no_nan (fin s m e) h = tt
+-- what is no number
+pub refused_nan : (most : ℤ) (x : Float) → is_nan x ≡ true → refused ≡ taken_of most x
+unfolding is_nan is_taken
+refused_nan most nan h = not_taken most nan refl
+refused_nan most (inf s) h = absurd (true≢false (sym h))
+refused_nan most (fin s m e) h = absurd (true≢false (sym h))
 
 -- a double that the format holds, by its bits
 module _ (most : ℤ) (x : Float) (F : T (fits binary64 x)) where
@@ -83,8 +72,8 @@ module _ (most : ℤ) (x : Float) (F : T (fits binary64 x)) where
     by_tick : is_taken most x ≡ passes most t
     by_tick = ap (is_taken most) (sym again) ∙ taken_by_tick b h most ∙ ap (passes most) (sym e)
 
-    pub taken_in : passes most t ≡ true → (z : ℤ) → z ≡ t → taken none z ≡ taken_of most x
-    taken_in l z r = ap (taken none) (r ∙ e ∙ ap tick_of again) ∙ is_taken_lem most x (by_tick ∙ l)
+    pub taken_in : passes most t ≡ true → taken none t ≡ taken_of most x
+    taken_in l = ap (taken none) (e ∙ ap tick_of again) ∙ is_taken_lem most x (by_tick ∙ l)
 
     pub refused_outside : passes most t ≡ false → refused ≡ taken_of most x
     refused_outside l = not_taken most x (by_tick ∙ l)

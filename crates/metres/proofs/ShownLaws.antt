@@ -1,12 +1,12 @@
 -- A tick as a double: a whole number that a double holds, divided by 4,096.0, is the double of the quotient, and its value is that quotient exactly.
 -- Assumes nothing.
 use mathlib.Core.Bool.{Bool, false, true}
-use mathlib.Core.Path.{◌∙◌, ◌≡◌, ap, refl, subst, sym}
+use mathlib.Core.Path.{◌∙◌, ◌≡◌, ap, refl, sym}
 use Prim.Native.Nat.{◌*◌, ◌+◌, ◌<◌, ◌^◌, ◌≤◌, suc, ℕ}
 use native.Mathlib.Nat.{le_of_lt, lt_of_lt_of_le, mul_assoc, mul_comm, mul-pos, zero-lt-suc}
 use native.Mathlib.Omega.{arith}
-use lib.Dec.{T, le→leb, lit≤, lt→ltb}
-use lib.Ieee.{Float, binary64, div, down, fin, fits, in_float, inf, nan, of_bits, of_int, round, unlike, up}
+use lib.Dec.{T, lit≤}
+use lib.Ieee.{Float, binary64, div, down, fin, fits, inf, nan, of_bits, of_int, round, unlike, up}
 use lib.Ieee.Back.{round_whole}
 use lib.Ieee.Exact.{HasValue, round_exact}
 use lib.Ieee.Fits.{down_pos, round-fits}
@@ -72,15 +72,6 @@ over_unit (negsuc n) h = divided (round binary64 true (suc n) 1) true (suc n) (r
 -- t as a double, divided by 4096.0, where the machine reads t back as z
 pub metres_is : (t z : ℤ) → z ≡ t → Abs most_shown t → div binary64 (of_int binary64 z) (of_bits binary64 0x40b0_0000_0000_0000) ≡ metres_of t
 metres_is t z e h = ap (λ (y : ℤ). div binary64 (of_int binary64 y) (of_bits binary64 0x40b0_0000_0000_0000)) e ∙ ap (λ (y : Float). div binary64 (of_int binary64 t) y) unit_is ∙ over_unit t h
-
--- and the cast of t loses nothing
-in_float_lem : (t : ℤ) → Abs most_shown t → T (in_float binary64 t)
-unfolding in_float
-in_float_lem (pos n) h = le→leb n (2 ^ 53) (le_of_lt (below_digits h))
-in_float_lem (negsuc n) h = lt→ltb n (2 ^ 53) (le_of_lt (below_digits h))
-
-pub castable : (t z : ℤ) → z ≡ t → Abs most_shown t → T (in_float binary64 z)
-castable t z e h = subst (λ (y : ℤ). T (in_float binary64 y)) (sym e) (in_float_lem t h)
 
 -- ---- a tick's metres are a double
 

@@ -4,23 +4,19 @@
 use mathlib.Core.Bool.{Bool, cond, false, not, true}
 use mathlib.Core.Logic.{inl, inr, ⊎_elim}
 use mathlib.Core.Path.{◌∙◌, ◌≡◌, ap, refl, subst, sym}
-use Prim.Native.Nat.{◌%◌, ◌*◌, ◌+◌, ◌-◌, ◌/◌, ◌<◌, ◌^◌, ◌≤◌, compare, suc, zero, ℕ}
+use Prim.Native.Nat.{◌%◌, ◌*◌, ◌+◌, ◌-◌, ◌<◌, ◌^◌, ◌≤◌, compare, suc, zero, ℕ}
 use native.Mathlib.Nat.{div-one, le-add_right, le_of_eq, le_of_lt, le_trans, lt_of_le_of_lt, lt_of_lt_of_le, mod-eq_of_lt, mod-lt, mod-one, mul_assoc, mul-le-mul_right, mul-one, mul_right_comm, one-mul, zero-lt-suc}
 use native.Mathlib.Omega.{arith}
-use lib.Bits.{and_mask, bit_and, bit_or, or_shifted_r}
 use lib.Dec.{T, eqb, leb, leb→le, lit≤, lt→ltb, nleb→lt}
 use lib.Ieee.{Float, binary64, down, fin, inf, nan, nearest, odd, of_bits, of_fields, up}
 use lib.Ieee.Exact.{HasValue, odd_sign}
 use lib.Ieee.Fits.{down_pos}
 use lib.Ieee.Nearest.{closest, closest_mono, closest_same}
 use lib.Ieee.Scale.{finite}
-use lib.IntN.{+ℤ_idl, ◌-ℤ◌, nat_abs, negsuc, neg_ℤ, pos, ℤ}
+use lib.IntN.{nat_abs, negsuc, neg_ℤ, pos, ℤ}
 use lib.Pow.{field, pow-add, pow-lt, pow_mono, pow_pos, shl_lt}
 use lib.Signed.{◌≤ℤ◌, clash_ℤ, lt_z_yes}
 use borrow.Author.Tests.{le-leb, lt-leb, ne_eqb}
-use mir.Facts.{to_z-of_z, to_z_pos}
-use mir.Syntax.{w64}
-use mir.Val.{SFits, of_z, to_z}
 use Rattle.whole.specs.Ranges.{between, in_range}
 use Rattle.whole.proofs.OrderLaws.{≤ℤ_or-<, ≤ℤ_trans}
 use Rattle.whole.proofs.WithinLaws.{out_ranged}
@@ -33,7 +29,7 @@ use Rattle.metres.proofs.ShownLaws.{value_finite}
 -- ---- the size by a value
 
 -- the size of a double that is a / c without sign
-pub size_at : (x : Float) (s : Bool) (a c : ℕ) → 0 < c → HasValue x s a c → ticks_in x ≡ closest (a * 4096) c
+size_at : (x : Float) (s : Bool) (a c : ℕ) → 0 < c → HasValue x s a c → ticks_in x ≡ closest (a * 4096) c
 unfolding ticks_in
 size_at nan s a c C h = absurd h
 size_at (inf t) s a c C h = absurd h
@@ -42,7 +38,7 @@ size_at (fin t m e) s a c C h =
     (mul_right_comm (m * up e) 4096 c ∙ ap (λ (x : ℕ). x * 4096) h.1 ∙ mul_right_comm a (down e) 4096)
 
 -- and its tick
-pub tick_at : (x : Float) (s : Bool) (a c : ℕ) → HasValue x s a c → tick_of x ≡ signed_by s (ticks_in x)
+tick_at : (x : Float) (s : Bool) (a c : ℕ) → HasValue x s a c → tick_of x ≡ signed_by s (ticks_in x)
 unfolding tick_of
 tick_at nan s a c h = absurd h
 tick_at (inf t) s a c h = absurd h
@@ -180,13 +176,7 @@ far_refused most m s (suc j) t h = go (eqb (suc j) 2047) (eqb t 0)
 
 -- ---- by the bits
 
-pub field_is : (b : ℕ) → bit_and (b / 2 ^ 52) (2 ^ 11 - 1) ≡ field_of b
-field_is b = and_mask (b / 2 ^ 52) 11
-
-pub digits_are : (b : ℕ) → bit_or (bit_and b (2 ^ 52 - 1)) (2 ^ 52) ≡ digits_of b
-digits_are b = ap (λ (k : ℕ). bit_or k (2 ^ 52)) (and_mask b 52) ∙ or_shifted_r 1 52 (b % 2 ^ 52) (mod-lt b (pow_pos 52))
-
-pub digits_below : (b : ℕ) → digits_of b < 2 ^ 53
+digits_below : (b : ℕ) → digits_of b < 2 ^ 53
 digits_below b = with_lead (mod-lt b (pow_pos 52))
 
 -- 1 shifted up by as many places as a field between the two asks for
@@ -194,13 +184,10 @@ module _ (x : ℕ) (l : near < x) where
   places : 1063 - x ≤ 53
   places = omega (arith, l)
 
-  pub unit_is : 1 * 2 ^ (1063 - x) % 2 ^ 64 ≡ 2 ^ (1063 - x)
+  unit_is : 1 * 2 ^ (1063 - x) % 2 ^ 64 ≡ 2 ^ (1063 - x)
   unit_is =
       let room : 53 < 64 = lit≤ tt in
       ap (λ (k : ℕ). k % 2 ^ 64) (one-mul (2 ^ (1063 - x))) ∙ mod-eq_of_lt (lt_of_le_of_lt (pow_mono places) (pow-lt room))
-
-  pub unit_some : 0 < 1 * 2 ^ (1063 - x) % 2 ^ 64
-  unit_some = subst (λ (k : ℕ). 0 < k) (sym unit_is) (pow_pos (1063 - x))
 
   pub unit_most : 1 * 2 ^ (1063 - x) % 2 ^ 64 ≤ 2 ^ 53
   unit_most = subst (λ (k : ℕ). k ≤ 2 ^ 53) (sym unit_is) (pow_mono places)
@@ -213,14 +200,17 @@ module _ (b : ℕ) where
   pub size_near : field_of b ≤ near → 0 ≡ ticks_in (of_bits binary64 b)
   size_near h = sym (ap ticks_in fields_are ∙ near_none (leb (2 ^ 63) b) (field_of b) (b % 2 ^ 52) (mod-lt b (pow_pos 52)) h)
 
-  pub size_between : near < field_of b → field_of b < far → closest (digits_of b) (2 ^ (1063 - field_of b)) ≡ ticks_in (of_bits binary64 b)
+  size_between : near < field_of b → field_of b < far → closest (digits_of b) (2 ^ (1063 - field_of b)) ≡ ticks_in (of_bits binary64 b)
   size_between l h = sym (ap ticks_in fields_are ∙ between_them (leb (2 ^ 63) b) (field_of b) (b % 2 ^ 52) l h)
+
+  pub size_told : near < field_of b → field_of b < far → closest (digits_of b) (1 * 2 ^ (1063 - field_of b) % 2 ^ 64) ≡ ticks_in (of_bits binary64 b)
+  size_told l h = ap (closest (digits_of b)) (unit_is (field_of b) l) ∙ size_between l h
 
   pub taken_far : (most : ℤ) → most ≤ℤ pos most_level → far ≤ field_of b → is_taken most (of_bits binary64 b) ≡ false
   taken_far most m h = ap (is_taken most) fields_are ∙ far_refused most m (leb (2 ^ 63) b) (field_of b) (b % 2 ^ 52) h
 
   module _ (h : field_of b < far) where
-    pub tick_signed : tick_of (of_bits binary64 b) ≡ signed_by (leb (2 ^ 63) b) (ticks_in (of_bits binary64 b))
+    tick_signed : tick_of (of_bits binary64 b) ≡ signed_by (leb (2 ^ 63) b) (ticks_in (of_bits binary64 b))
     tick_signed = subst (λ y. tick_of y ≡ signed_by (leb (2 ^ 63) b) (ticks_in y)) (sym fields_are) (tick_plain (leb (2 ^ 63) b) (field_of b) (b % 2 ^ 52) (omega (arith, h)))
 
     pub taken_by_tick : (most : ℤ) → is_taken most (of_bits binary64 b) ≡ passes most (tick_of (of_bits binary64 b))
@@ -247,27 +237,3 @@ module _ (b : ℕ) where
 
     pub tick_above : b < 2 ^ 63 → tick_of (of_bits binary64 b) ≡ pos (ticks_in (of_bits binary64 b))
     tick_above l = tick_signed ∙ ap (λ s. signed_by s (ticks_in (of_bits binary64 b))) (lt-leb (2 ^ 63) b l)
-
--- ---- a small size n as the machine has it, and 0 - n
-module _ {n : ℕ} (h : n ≤ 8388608) where
-  small : n < 2 ^ 63
-  small = omega (arith, h)
-
-  pub sized : SFits w64 (pos n)
-  sized = record { sfits = small }
-
-  pub as_signed : to_z w64 n ≡ pos n
-  as_signed = to_z_pos w64 small
-
-  turned : pos 0 -ℤ to_z w64 n ≡ neg_ℤ (pos n)
-  turned = ap (λ (z : ℤ). pos 0 -ℤ z) as_signed ∙ +ℤ_idl (neg_ℤ (pos n))
-
-  pub turned_fits : SFits w64 (pos 0 -ℤ to_z w64 n)
-  turned_fits = subst (λ (z : ℤ). SFits w64 z) (sym turned) (go n small)
-    where
-      go : (k : ℕ) → k < 2 ^ 63 → SFits w64 (neg_ℤ (pos k))
-      go zero l = record { sfits = l }
-      go (suc k) l = record { sfits = le_of_lt l }
-
-  pub turned_is : to_z w64 (of_z w64 (pos 0 -ℤ to_z w64 n)) ≡ neg_ℤ (pos n)
-  turned_is = to_z-of_z turned_fits ∙ turned

@@ -1,17 +1,28 @@
 -- A boundary as the client writes it (document 01, "Metres"), and what it sets in a block's kind slot and its level slot.
-use Rattle.std.specs.Prelude.{pos, ℤ}
+use Rattle.std.specs.Prelude.{Result, Ok, Err, pos, ℤ}
 use Rattle.slots.specs.Units.{most_level}
-use Rattle.slices.specs.declared.Refusal.{Refusal}
+use Rattle.slices.specs.declared.refusal.Refusal.{Refusal as Refused}
+use Rattle.slices.specs.Refusals.{Refusal, refusal_in}
 use Rattle.slices.specs.Slices.{none, unless_refused}
-use Rattle.metres.specs.declared.Taken.{Taken}
 use Rattle.metres.specs.declared.boundary.Boundary.{Boundary}
 use Rattle.metres.specs.declared.boundary.Boundary.TheVariants.{BothFixed, FixedFresh, FixedSalt, None, River, Sea}
-use Rattle.metres.specs.declared.boundary.BoundarySlots.{BoundarySlots}
-use Rattle.metres.specs.Metres.{taken_of}
+use Rattle.metres.specs.declared.boundary.BoundarySlots.{BoundarySlots as Set}
+use Rattle.metres.specs.Metres.{Taken, taken_of}
+
+-- what a boundary sets: a refusal, or beside number 0 what goes into the kind slot and the level slot, ticks. Both are 0 beside a refusal.
+pub record BoundarySlots : Type 0 where
+  pub refusal : Refusal
+  pub kind : ℤ
+  pub level : ℤ
 
 -- a refusal, and what goes into the kind slot and the level slot, ticks
 abbrev pub setting : Refusal → ℤ → ℤ → BoundarySlots
 setting r kind level = record { refusal = r; kind = kind; level = level }
+
+-- what is answered, as a refusal and what is set
+abbrev pub boundary_slots_in : Result Set Refused → BoundarySlots
+boundary_slots_in (Ok set) = setting none set.kind set.level
+boundary_slots_in (Err e) = setting (refusal_in {A = Set} (Err e)) (pos 0) (pos 0)
 
 -- a kind with "0 without a level"
 abbrev pub without_level : ℤ → BoundarySlots

@@ -1,16 +1,15 @@
 -- Metres (document 01): what a tick is shown as, and which tick a double is taken in as. A double is a `Float` of the kit: `nan`, no number; `inf s`, an
 -- infinity; or `fin s m e`, the number m · 2^e. Where s is true it is below zero.
-use Rattle.std.specs.Prelude.{Bool, cond, false, true, ◌*◌, suc, ℕ, Float, negsuc, neg_ℤ, pos, ℤ}
+use Rattle.std.specs.Prelude.{Bool, cond, false, true, Result, Ok, Err, ◌*◌, suc, ℕ, Float, negsuc, neg_ℤ, pos, ℤ}
 use Rattle.std.specs.Float.{binary64, fin, inf, nan}
 use Rattle.std.specs.Float.Ieee.{down, round, up}
 use Rattle.std.specs.Float.Ieee.Nearest.{closest}
 use Rattle.whole.specs.Ranges.{between, in_range}
 use Rattle.slots.specs.Units.{most_level}
-use Rattle.slices.specs.declared.Refusal.{Refusal}
+use Rattle.slices.specs.declared.refusal.Refusal.{Refusal as Refused}
+use Rattle.slices.specs.Refusals.{Refusal, refusal_in}
 use Rattle.slices.specs.Slices.{none, refusal}
 use Rattle.block.specs.Units.{ticks}
-use Rattle.metres.specs.declared.Shown.{Shown}
-use Rattle.metres.specs.declared.Taken.{Taken}
 
 -- ---- shown
 
@@ -31,9 +30,19 @@ is_shown t = in_range (between (neg_ℤ (pos most_shown)) (pos most_shown)) t
 abbrev pub zero_metres : Float
 zero_metres = fin false 0 (pos 0)
 
+-- what a tick is shown as: a refusal, or beside number 0 the tick in metres. The metres beside a refusal are 0.0.
+pub record Shown : Type 0 where
+  pub refusal : Refusal
+  pub metres : Float
+
 -- a refusal, and metres beside it
 abbrev pub shown : Refusal → Float → Shown
 shown r x = record { refusal = r; metres = x }
+
+-- what is answered, as a refusal and metres
+abbrev pub shown_in : Result Float Refused → Shown
+shown_in (Ok x) = shown none x
+shown_in (Err e) = shown (refusal_in {A = Float} (Err e)) zero_metres
 
 -- a tick in metres; beyond 2⁵³ - 1 without sign not every tick has an exact double, and all are refused with 12
 unfoldable pub shown_of : ℤ → Shown
@@ -66,9 +75,19 @@ is_taken most nan = false
 is_taken most (inf s) = false
 is_taken most (fin s m e) = in_range (between (neg_ℤ (pos most_level)) most) (tick_of (fin s m e))
 
+-- what a double is taken in as: a refusal, or beside number 0 its tick. The tick beside a refusal is 0.
+pub record Taken : Type 0 where
+  pub refusal : Refusal
+  pub tick : ℤ
+
 -- a refusal, and a tick beside it
 abbrev pub taken : Refusal → ℤ → Taken
 taken r t = record { refusal = r; tick = t }
+
+-- what is answered, as a refusal and a tick
+abbrev pub taken_in : Result ℤ Refused → Taken
+taken_in (Ok t) = taken none t
+taken_in (Err e) = taken (refusal_in {A = ℤ} (Err e)) (pos 0)
 
 -- the tick of a double, or refusal 12
 unfoldable pub taken_of : ℤ → Float → Taken

@@ -28,6 +28,7 @@ fn digits_of(bits: u64) -> u64
 }
 
 // How many ticks a double has, to the nearest, without sign. Inner: its exponent's field is below FAR.
+#[tactic(auto, using(crate::proofs::TakenLaws::size_near, crate::proofs::TakenLaws::unit_most, crate::proofs::TakenLaws::size_told))]
 fn ticks_in(bits: u64) -> u64
     requires { field_of bits < far }
     ensures { result ≡ ticks_in (of_bits binary64 bits) }
@@ -41,13 +42,14 @@ fn ticks_in(bits: u64) -> u64
 }
 
 // The nearest tick of a double. Inner: its exponent's field is below FAR.
+#[tactic(auto, using(crate::proofs::TakenLaws::size_most, crate::proofs::TakenLaws::tick_below, crate::proofs::TakenLaws::tick_above))]
 pub fn tick_of(bits: u64) -> i64
     requires { field_of bits < far }
     ensures { result ≡ tick_of (of_bits binary64 bits) }
 {
     let size = ticks_in(bits) as i64;
     if bits >= 0x8000_0000_0000_0000 {
-        0 - size
+        -size
     } else {
         size
     }

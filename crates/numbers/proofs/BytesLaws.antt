@@ -12,10 +12,8 @@ use lib.ListN.{drop, get_or, length, length-append, length-drop}
 use lib.Pow.{pow_pos}
 use lib.Seq.{append_snoc, drop-cons, get_or-append_seam}
 use borrow.Author.Tests.{le-ltb, lt-ltb}
-use Rattle.numbers.specs.declared.Number.{Number}
-use Rattle.numbers.specs.declared.Number.TheVariants.{Ended, TooLong, Value}
 use Rattle.numbers.specs.Meaning.{Continues}
-use Rattle.numbers.specs.Numbers.{bytes_from, bytes_of, most_bytes, number_at, number_from}
+use Rattle.numbers.specs.Numbers.{Ended, Number, TooLong, Value, bytes_from, bytes_of, most_bytes, number_at, number_from}
 use Rattle.numbers.proofs.NumbersLaws.{ended, long, more, pow_seven, spent, value}
 
 bytes_last : (left n : ℕ) → n < 128 → bytes_from (suc left) n ≡ n ∷ []

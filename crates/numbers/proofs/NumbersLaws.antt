@@ -9,8 +9,7 @@ use lib.IntN.{◌-ℤ◌, negsuc, pos}
 use lib.ListN.{get_or, length}
 use lib.Pow.{pow-add, pow_mono, pow_pos}
 use borrow.Author.Tests.{le-leb, le-ltb, lt-leb, lt-ltb}
-use Rattle.numbers.specs.declared.Number.TheVariants.{Ended, TooLong, Value}
-use Rattle.numbers.specs.Numbers.{number_at, number_from}
+use Rattle.numbers.specs.Numbers.{Ended, TooLong, Value, number_at, number_from}
 
 module _ (s : List ℕ) (at least w v : ℕ) where
   pub spent : (left : ℕ) → left ≤ 0 → number_from left least w v s at ≡ TooLong
@@ -42,21 +41,13 @@ module _ (s : List ℕ) (at least w v : ℕ) where
       let p : suc left - 1 ≡ left = omega arith in
       rw p (simp (lt-leb (length s) at e, le-leb 128 (get_or s at 0) b))
 
--- the weight of the next byte, where `left` may still be read
-abbrev pub weight_of : ℕ → ℕ
-weight_of left = 2 ^ (35 - 7 * left)
-
-pub weight_most : (left : ℕ) → 0 < left → weight_of left ≤ 2 ^ 28
-weight_most left h = pow_mono {i = 35 - 7 * left} {j = 28} (omega arith)
-
-pub weight_next : (left : ℕ) → 0 < left → left ≤ 5 → weight_of left * 128 ≡ weight_of (left - 1)
-weight_next left h k =
-    let e : 35 - 7 * (left - 1) ≡ 35 - 7 * left + 7 = omega arith in
-    rw e (sym (pow-add 2 (35 - 7 * left) 7))
-
 -- one group more stays below the next weight
 pub group : (v d w : ℕ) → d < 128 → v < w → v + d * w < w * 128
 group v d w h k = omega (arith, mul-le-mul_right {m = d} {n = 127} w (omega arith))
+
+-- a group of the first five keeps its worth in 64 bits
+pub worth : (d k : ℕ) → d < 128 → k < 5 → d * 2 ^ (7 * k) % 2 ^ 64 ≡ d * 2 ^ (7 * k)
+worth d k h l = omega (arith, mul-le-mul_right {m = d} {n = 127} (2 ^ (7 * k)) (omega arith), pow_mono {i = 7 * k} {j = 28} (omega arith))
 
 pub pow_seven : (left : ℕ) → 2 ^ (7 * suc left) ≡ 2 ^ (7 * left) * 128
 pow_seven left = let e : 7 * suc left ≡ 7 * left + 7 = omega arith in rw e (pow-add 2 (7 * left) 7)

@@ -10,9 +10,8 @@ use lib.IntN.{negsuc, pos, ℤ}
 use lib.ListN.{drop, get_or, length, take, take-append-drop}
 use lib.Seq.{length-take-le}
 use borrow.Author.Tests.{eq-eqb, ne_eqb}
-use Rattle.numbers.specs.declared.Number.TheVariants.{Ended, TooLong, Value}
 use Rattle.numbers.specs.Meaning.{Continues}
-use Rattle.numbers.specs.Numbers.{bytes_of, most_bytes, number_at, sent_of, signed_of}
+use Rattle.numbers.specs.Numbers.{Ended, TooLong, Value, bytes_of, most_bytes, number_at, sent_of, signed_of}
 use Rattle.numbers.proofs.BytesLaws.{Found, end_follows, five_high, found, starts_inside, read_back, write_back, zero_follows}
 use Rattle.numbers.proofs.BytesLaws.Found.{ends, five, zero_last}
 

@@ -2,8 +2,7 @@
 use mathlib.Core.List.{[], ◌∷◌}
 use mathlib.Core.Path.{◌≡◌, refl}
 use lib.IntN.{negsuc}
-use Rattle.numbers.specs.declared.Number.TheVariants.{Ended, TooLong, Value}
-use Rattle.numbers.specs.Numbers.{bytes_from, bytes_of, number_at, number_from, sent_of, signed_of}
+use Rattle.numbers.specs.Numbers.{Ended, TooLong, Value, bytes_from, bytes_of, number_at, number_from, sent_of, signed_of}
 
 pub three_hundred : number_at (0xAC ∷ 0x02 ∷ []) 0 ≡ Value 300 2
 unfolding number_from

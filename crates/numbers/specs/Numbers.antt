@@ -1,7 +1,21 @@
 -- Numbers of a case file (document 01, "The case file").
-use Rattle.std.specs.Prelude.{cond, List, [], ◌∷◌, ℕ, zero, suc, ◌+◌, ◌*◌, ◌/◌, ◌%◌, eqb, leb, ltb, ℤ, pos, negsuc, length, get_or}
-use Rattle.numbers.specs.declared.Number.{Number}
-use Rattle.numbers.specs.declared.Number.TheVariants.{Value, Ended, TooLong}
+use Rattle.std.specs.Prelude.{cond, List, [], ◌∷◌, ℕ, zero, suc, ◌+◌, ◌*◌, ◌/◌, ◌%◌, eqb, leb, ltb, ℤ, pos, negsuc, length, get_or, Result, Ok, Err}
+use Rattle.numbers.specs.declared.Number.{Number as Found}
+use Rattle.numbers.specs.declared.NumberError.{NumberError}
+use Rattle.numbers.specs.declared.NumberError.TheVariants as error
+
+-- What stands at a place of a file: a number and the place after it; or the file "ends where a byte is still needed"; or "a number is longer than its
+-- shortest form, or a fifth byte has its high bit set".
+pub data Number : Type 0 where
+  Value : (value next : ℕ) → Number
+  Ended : Number
+  TooLong : Number
+
+-- the same of what the functions answer with
+abbrev pub number_in : Result Found NumberError → Number
+number_in (Ok n) = Value n.value n.next
+number_in (Err error.Ended) = Ended
+number_in (Err error.TooLong) = TooLong
 
 -- "at most five bytes"
 abbrev pub most_bytes : ℕ

@@ -7,10 +7,10 @@ use Prim.Native.Nat.{◌+◌, ◌-◌, ◌<◌, ◌≤◌, suc, zero, ℕ}
 use native.Mathlib.Omega.{arith}
 use lib.Dec.{T, eqb, le→leb, leb}
 use borrow.Author.Tests.{eq-eqb}
+use Rattle.std.specs.Prelude.{Some}
 use Rattle.whole.proofs.SearchLaws.{holds, joint, not_left, not_right, true_is}
 use Rattle.grid.specs.declared.Grid.{Grid}
 use Rattle.grid.specs.declared.place.Place.{Place}
-use Rattle.grid.specs.declared.place.Neighbour.TheVariants.{At}
 use Rattle.grid.specs.Inner.{Counted}
 use Rattle.grid.specs.Place.{blocks_of, coordinate_of, neighbour_of, next_of, place_of, previous_of, stride_of}
 use Rattle.grid.specs.Units.{above}
@@ -28,7 +28,7 @@ record Away (g : Grid) (d most i j : ℕ) : Type 0 where
 none_away : (g : Grid) (d i : ℕ) → Away g d 0 i i
 none_away g d i = record { further = omega arith; before = omega arith; alike = λ e h n. refl }
 
-one_away : (g : Grid) → Counted g → (d i j : ℕ) (on : Bool) → d < 3 → i < blocks_of g → neighbour_of g d i on ≡ At j → Away g d 1 j i
+one_away : (g : Grid) → Counted g → (d i j : ℕ) (on : Bool) → d < 3 → i < blocks_of g → neighbour_of g d i on ≡ Some j → Away g d 1 j i
 unfolding neighbour_of
 one_away g counted d i j true h l e =
     let s = (there_at (next_of g d i) (i + stride_of g d) j).0 e in
@@ -113,10 +113,10 @@ module _ (g : Grid) (k j : ℕ) (out : reach_of g k j ≡ false) where
     pub itself_other : Other g k j
     itself_other = (l, other_than 0 0 j (omega arith) (omega arith) (none_away g 0 j))
 
-    pub one_step_other : (d : ℕ) (on : Bool) (x : ℕ) → d < 3 → neighbour_of g d j on ≡ At x → Other g k x
+    pub one_step_other : (d : ℕ) (on : Bool) (x : ℕ) → d < 3 → neighbour_of g d j on ≡ Some x → Other g k x
     one_step_other d on x h e = (across_inside g counted d j x on l e, other_than d 1 x h (one_reached d) (one_away g counted d j x on h l e))
 
-    pub two_steps_other : (d : ℕ) (on : Bool) (m x : ℕ) → d < above → neighbour_of g d j on ≡ At m → neighbour_of g d m on ≡ At x → Other g k x
+    pub two_steps_other : (d : ℕ) (on : Bool) (m x : ℕ) → d < above → neighbour_of g d j on ≡ Some m → neighbour_of g d m on ≡ Some x → Other g k x
     two_steps_other d on m x h e f =
         let axis : d < 3 = omega (arith, h) in
         let n = across_inside g counted d j m on l e in

@@ -7,10 +7,10 @@ use Prim.Native.Nat.{◌+◌, ◌-◌, ◌<◌, ◌≤◌, ℕ}
 use native.Mathlib.Omega.{arith}
 use lib.Dec.{T}
 use lib.IntN.{ℤ}
+use Rattle.std.specs.Prelude.{Some}
 use Rattle.whole.specs.Sum.{back, only}
 use Rattle.whole.proofs.SumLaws.{only_same}
 use Rattle.grid.specs.declared.Grid.{Grid}
-use Rattle.grid.specs.declared.place.Neighbour.TheVariants.{At}
 use Rattle.grid.specs.Inner.{Counted}
 use Rattle.grid.specs.Place.{behind_of, blocks_of, neighbour_of, next_of, previous_of, stride_of}
 use Rattle.grid.specs.Units.{above}
@@ -31,11 +31,11 @@ use Rattle.balance.proofs.BalanceLaws.{ending_is}
 use Rattle.balance.proofs.SameLaws.{area_alike, balance_by_links, brought_by_link, lateral_alike, leakage_alike, named_alike}
 
 -- a step on and a step back along an axis, where a block is there
-step_on : (g : Grid) (d i : ℕ) → T (next_of g d i) → neighbour_of g d i true ≡ At (i + stride_of g d)
+step_on : (g : Grid) (d i : ℕ) → T (next_of g d i) → neighbour_of g d i true ≡ Some (i + stride_of g d)
 unfolding neighbour_of
 step_on g d i t = (there_at (next_of g d i) (i + stride_of g d) (i + stride_of g d)).1 (t, refl)
 
-step_back : (g : Grid) (d i : ℕ) → T (previous_of g d i) → neighbour_of g d i false ≡ At (i - stride_of g d)
+step_back : (g : Grid) (d i : ℕ) → T (previous_of g d i) → neighbour_of g d i false ≡ Some (i - stride_of g d)
 unfolding neighbour_of
 step_back g d i t = (there_at (previous_of g d i) (i - stride_of g d) (i - stride_of g d)).1 (t, refl)
 
@@ -54,7 +54,7 @@ module _ (c : Case) (columns rows slots : List ℤ) (widths : Alike c (case_of c
 
     -- what it brings to either side
     brought : (fluid d i : ℕ) (side : Bool) → d < 3 → Same i → (T (next_of g d i) → Same (i + stride_of g d))
-        → (d < above → T (next_of g d i) → (low : Bool) (p : ℕ) → behind_of g d i low ≡ At p → Same p)
+        → (d < above → T (next_of g d i) → (low : Bool) (p : ℕ) → behind_of g d i low ≡ Some p → Same p)
         → brought_of (books_of c fluid) side d i ≡ brought_of (books_of other fluid) side d i
     brought fluid d i side h low high behind = brought_by_link c other fluid side d i (live_by_blocks g c.slots slots d i (block i low) (λ t. block (i + stride_of g d) (high t))) link
       where
@@ -74,8 +74,8 @@ module _ (c : Case) (columns rows slots : List ℤ) (widths : Alike c (case_of c
     -- they hold the block itself, every block one step away, and every block two steps away in its row or its column
     pub record Seen (j : ℕ) : Type 0 where
       pub itself : Same j
-      pub one : (d : ℕ) (on : Bool) (x : ℕ) → d < 3 → neighbour_of g d j on ≡ At x → Same x
-      pub two : (d : ℕ) (on : Bool) (m x : ℕ) → d < above → neighbour_of g d j on ≡ At m → neighbour_of g d m on ≡ At x → Same x
+      pub one : (d : ℕ) (on : Bool) (x : ℕ) → d < 3 → neighbour_of g d j on ≡ Some x → Same x
+      pub two : (d : ℕ) (on : Bool) (m x : ℕ) → d < above → neighbour_of g d j on ≡ Some m → neighbour_of g d m on ≡ Some x → Same x
 
     module _ (j : ℕ) (l : j < blocks_of g) (seen : Seen j) where
       -- the link that leads on from it
@@ -83,7 +83,7 @@ module _ (c : Case) (columns rows slots : List ℤ) (widths : Alike c (case_of c
       unfolding behind_of
       leading fluid d h = brought fluid d j true h seen.itself (λ t. seen.one d true (j + stride_of g d) h (step_on g d j t)) behind
         where
-          behind : d < above → T (next_of g d j) → (low : Bool) (p : ℕ) → behind_of g d j low ≡ At p → Same p
+          behind : d < above → T (next_of g d j) → (low : Bool) (p : ℕ) → behind_of g d j low ≡ Some p → Same p
           behind b t true p e = seen.one d false p h e
           behind b t false p e = seen.two d true (j + stride_of g d) p b (step_on g d j t) e
 
@@ -99,7 +99,7 @@ module _ (c : Case) (columns rows slots : List ℤ) (widths : Alike c (case_of c
           again : T (previous_of g d j) → j - stride_of g d + stride_of g d ≡ j
           again t = omega (arith, previous_low g counted d j l t)
 
-          behind : T (previous_of g d j) → d < above → (low : Bool) (p : ℕ) → behind_of g d (j - stride_of g d) low ≡ At p → Same p
+          behind : T (previous_of g d j) → d < above → (low : Bool) (p : ℕ) → behind_of g d (j - stride_of g d) low ≡ Some p → Same p
           behind t b true p e = seen.two d false (j - stride_of g d) p b (step_back g d j t) e
           behind t b false p e = seen.one d true p h (ap (λ (m : ℕ). neighbour_of g d m true) (sym (again t)) ∙ e)
 

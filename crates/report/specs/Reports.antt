@@ -1,10 +1,11 @@
 -- A block's report (document 01, "Metres"), and what it is refused with.
-use Rattle.std.specs.Prelude.{Bool, ◌&&◌, cond, List, [], ◌++◌, ◌∷◌, ◌-◌, ℕ, leb, Float, ℤ}
+use Rattle.std.specs.Prelude.{Bool, ◌&&◌, cond, List, [], ◌++◌, ◌∷◌, ◌-◌, ℕ, leb, Float, ℤ, Result, Ok, Err}
 use Rattle.grid.specs.declared.Grid.{Grid}
 use Rattle.grid.specs.Place.{blocks_of, top_of}
 use Rattle.slots.specs.declared.Block.{Block}
 use Rattle.slots.specs.Slots.{block_of, is_active}
-use Rattle.slices.specs.declared.Refusal.{Refusal}
+use Rattle.slices.specs.declared.refusal.Refusal.{Refusal as Refused}
+use Rattle.slices.specs.Refusals.{Refusal, refusal_in}
 use Rattle.slices.specs.Slices.{Case, first_refusal, none, refusal, unless_refused}
 use Rattle.block.specs.declared.Fluids.{Fluids}
 use Rattle.block.specs.Density.{interface_of}
@@ -12,7 +13,6 @@ use Rattle.block.specs.Fluids.{new_heads}
 use Rattle.block.specs.Geometry.{levels_of, thicknesses_of}
 use Rattle.metres.specs.Metres.{metres_of, zero_metres}
 use Rattle.wellformed.specs.Limits.{checks_of}
-use Rattle.report.specs.declared.Answer.{Answer}
 use Rattle.report.specs.declared.Report.{Report}
 
 -- "both heads, interface and both thicknesses in metres"
@@ -43,8 +43,18 @@ report_refusal c number = first_refusal (checks_of c ++ (naming c number ∷ [])
 abbrev pub no_report : Report
 no_report = in_doubles zero_metres zero_metres zero_metres zero_metres zero_metres
 
+-- a refusal, or beside number 0 a report. The numbers beside a refusal are all 0.0.
+pub record Answer : Type 0 where
+  pub refusal : Refusal
+  pub report : Report
+
 abbrev pub telling : Refusal → Report → Answer
 telling r report = record { refusal = r; report = report }
+
+-- what is answered, as a refusal and a report
+abbrev pub answer_in : Result Report Refused → Answer
+answer_in (Ok report) = telling none report
+answer_in (Err e) = telling (refusal_in {A = Report} (Err e)) no_report
 
 -- the report of a block, or 14, of a case that is not refused before; blocks are counted from 1 here and from 0 in the slots
 unfoldable pub report_of_case : Case → ℕ → Answer

@@ -3,7 +3,7 @@ use mathlib.Core.Bool.{Bool, ◌||◌, cond, false, true, true≢false}
 use mathlib.Core.List.{List, ◌++◌, append_assoc}
 use mathlib.Core.Logic.{◌↔◌, ◌≢◌, ⊎_elim}
 use mathlib.Core.Path.{◌∙◌, ◌≡◌, ap, ap₂, refl, sym}
-use Prim.Native.Nat.{◌*◌, ◌+◌, ◌<◌, ◌≤◌, suc, zero, ℕ}
+use Prim.Native.Nat.{◌*◌, ◌+◌, ◌-◌, ◌<◌, ◌≤◌, suc, zero, ℕ}
 use native.Mathlib.Decide.{dec_lt, ℕ_discrete}
 use native.Mathlib.Nat.{eq-or-lt_of_le, le_of_suc-le-suc}
 use native.Mathlib.Numerals.{add-one}
@@ -13,24 +13,33 @@ use lib.IntN.{pos, ℤ}
 use lib.ListN.{drop, length, length-append, replicate, take}
 use lib.Seq.{drop_at, take_at}
 use borrow.Author.Tests.{eq-eqb, le-ltb, lt-ltb, ne_eqb}
+use Rattle.std.specs.Prelude.{Err, Ok, Result}
+use borrow.Rule.Slice.PartMut.{put_mid}
 use Rattle.whole.specs.Lent.{over}
+use Rattle.whole.proofs.LentLaws.{over_rest}
 use Rattle.whole.proofs.SearchLaws.{not_left, not_right}
-use Rattle.slices.specs.declared.Refusal.{Refusal}
+use Rattle.grid.specs.declared.Grid.{Grid}
+use Rattle.grid.specs.Place.{blocks_of}
+use Rattle.slices.specs.declared.refusal.Refusal.{Refusal as Refused}
+use Rattle.slices.specs.Refusals.{Refusal, number_of}
 use Rattle.slices.specs.Slices.{Case, case_of, none, refusal}
-use Rattle.slices.proofs.SlicesLaws.{none_refused, none_together}
+use Rattle.slices.proofs.SlicesLaws.{none_refused, none_together, refused_same, refused_some}
 use Rattle.wellformed.specs.Limits.{checked_of, checks_of}
+use Rattle.books.specs.Inner.{Row, pair_of}
 use Rattle.books.specs.Waters.{well_checks}
 use Rattle.books.proofs.WatersLaws.{wet_wells}
 use Rattle.balance.specs.Balance.{balances_of}
 use Rattle.verdict.specs.declared.Verdict.{Verdict}
-use Rattle.verdict.specs.Ruling.{no_verdict, verdict_answer, verdict_of}
+use Rattle.verdict.specs.Ruling.{no_verdict, verdict_answer, verdict_by, verdict_of}
+use Rattle.verdict.proofs.RulingLaws.{verdict_same}
 use Rattle.verdict.proofs.AcceptanceLaws.{ruled_wet}
 use Rattle.budget.specs.Answers.{case_refusal, eighteen_of, everywhere, layer_answer, layer_zone, tabled, whole_answer}
 use Rattle.budget.specs.Table.{row_of}
-use Rattle.casefile.specs.Reading.{Read, reading_of}
+use Rattle.budget.proofs.AnswersLaws.{layer_given, whole_given}
+use Rattle.casefile.specs.Reading.{Read, answer_in, reading_of}
 use Rattle.session.specs.Meaning.{Tabled}
-use Rattle.session.specs.Sessions.{alone, case_in, file_session, first_line_only, layers_of, lent_slots, lent_widths, most_file, no_tables, read_session, refusing, ruling, session_of, tables_of, with_tables}
-use Rattle.casefile.specs.declared.Answer as file
+use Rattle.session.specs.declared.Session.{Session as Given}
+use Rattle.session.specs.Sessions.{Session, alone, case_in, file_session, first_line_only, layers_of, lent_slots, lent_widths, most_file, no_tables, read_session, refusing, ruling, session_in, session_of, tables_of, with_tables}
 
 -- ---- lines of tables
 
@@ -68,6 +77,19 @@ pub layers_more : (c : Case) (n : ℕ) → layers_of c (n + 1) ≡ layers_of c n
 unfolding layers_of
 layers_more c n = rw add-one
 
+-- the table of one layer more goes over the rest of a slice, right behind those of the layers before it; and that of the whole behind those of all layers
+module _ (c : Case) (wet : (case_refusal c).number ≡ 0) (l : List ℤ) {lines out rest : List ℤ} where
+  pub layer_put : (n : ℕ) → lines ≡ eighteen_of c (layer_zone c.grid (n + 1)) → out ≡ over (layers_of c n) l → rest ≡ over lines (take (length out - 18 * n) (drop (18 * n) out))
+      → put_mid (18 * n) (length out - 18 * n) out rest ≡ over (layers_of c (n + 1)) l
+  layer_put n told before put =
+      over_rest (layers_of c n) lines l (layers_length c n) before put ∙ ap (λ (vs : List ℤ). over vs l) (ap (λ (vs : List ℤ). layers_of c n ++ vs) (told ∙ sym (layer_given c (n + 1) wet)) ∙ sym (layers_more c n))
+
+  pub whole_put : lines ≡ eighteen_of c everywhere → out ≡ over (layers_of c c.grid.layers) l → rest ≡ over lines (take (length out - 18 * c.grid.layers) (drop (18 * c.grid.layers) out))
+      → put_mid (18 * c.grid.layers) (length out - 18 * c.grid.layers) out rest ≡ over (tables_of c) l
+  unfolding tables_of
+  whole_put told before put =
+      over_rest (layers_of c c.grid.layers) lines l (layers_length c c.grid.layers) before put ∙ ap (λ (vs : List ℤ). over (layers_of c c.grid.layers ++ vs) l) (told ∙ sym (whole_given c wet))
+
 -- a layer's table is found again among those of the first m layers
 pub layer_among : (c : Case) (n m : ℕ) (rest : List ℤ) → n < m → take 18 (drop (18 * n) (layers_of c m ++ rest)) ≡ (layer_answer c (n + 1)).lines
 unfolding layers_of
@@ -90,6 +112,11 @@ unfolding tables_of
 tables_same c d count layers whole = ap₂ (λ before answer. before ++ answer.lines) (layers_same c d layers c.grid.layers ∙ ap (layers_of d) count) whole
 
 -- ---- what stands beside a refusal, or a verdict
+
+-- the verdict by a row of the case's balances is that on the case
+pub verdict_on : (c : Case) {balances : List ℤ} → Row (blocks_of c.grid) (balances_of c) balances → verdict_by c.grid c.slots (pair_of balances) ≡ verdict_of c
+unfolding verdict_of
+verdict_on c {balances} row = verdict_same c.grid c.slots (pair_of balances) (balances_of c) row.each
 
 not_either : (m n code : ℕ) → eqb code m || eqb code n ≡ false → (code ≢ m) × (code ≢ n)
 not_either m n code f = (λ e. true≢false (sym (eq-eqb code m e) ∙ not_left (eqb code m) (eqb code n) f), λ e. true≢false (sym (eq-eqb code n e) ∙ not_right (eqb code m) (eqb code n) f))
@@ -191,14 +218,14 @@ unfolding file_session
 file_read file h = rw (le-ltb most_file (length file) h)
 
 -- what is printed for a file that was refused as it was read
-pub read_refused : (r : Read) (a : file.Answer) → a ≡ r.answer → (a.refusal.number ≡ 0 → ⊥) → refusing a.refusal ≡ read_session r
+pub read_refused : (r : Read) (e : Refused) → answer_in (Err e) ≡ r.answer → session_in (Err e) ≡ read_session r
 unfolding read_session
-read_refused r a e h = rw (← e, ne_eqb a.refusal.number 0 h)
+read_refused r e told = rw (← told, ne_eqb (number_of e) 0 (refused_some e))
 
 -- and for one that was not
-pub read_unrefused : (r : Read) (a : file.Answer) (columns rows slots : List ℤ) → a ≡ r.answer → columns ≡ over r.columns lent_widths → rows ≡ over r.rows lent_widths → slots ≡ over r.slots lent_slots → a.refusal.number ≡ 0 → session_of (case_of a.grid columns rows slots) ≡ read_session r
+pub read_unrefused : (r : Read) (g : Grid) (columns rows slots : List ℤ) → answer_in (Ok g) ≡ r.answer → columns ≡ over r.columns lent_widths → rows ≡ over r.rows lent_widths → slots ≡ over r.slots lent_slots → session_of (case_of g columns rows slots) ≡ read_session r
 unfolding read_session case_in
-read_unrefused r a columns rows slots e f g h z = rw (← e, eq-eqb a.refusal.number 0 z) (λ i. session_of (case_of a.grid (f i) (g i) (h i)))
+read_unrefused r g columns rows slots told e f h = rw (← told) (λ i. session_of (case_of g (e i) (f i) (h i)))
 
 -- a file for which no refusal is printed was read
 pub file_unrefused : (file : List ℕ) → (file_session file).refusal.number ≡ 0 → file_session file ≡ session_of (case_in (reading_of file lent_widths lent_widths lent_slots))
@@ -233,3 +260,12 @@ file_refused file n = go (dec_lt most_file (length file)) (ℕ_discrete r.answer
         let e = file_read file (omega arith) in
         let read : read_session r ≡ session_of (case_in r) = rw (eq-eqb r.answer.refusal.number 0 z) refl in
         rw (e, read) (of_case (printed (case_in r)) (rw (e, read) at n))
+
+-- ---- one outcome
+
+-- two results that are printed alike are one
+pub results_one : (r s : Result Given Refused) → session_in r ≡ session_in s → r ≡ s
+results_one (Ok x) (Ok y) e = λ i. Ok (record { verdict = (e i).verdict; tables = (e i).tables; lines = (e i).lines })
+results_one (Ok x) (Err d) e = absurd (refused_some d (sym (ap (λ (s : Session). s.refusal.number) e)))
+results_one (Err d) (Ok y) e = absurd (refused_some d (ap (λ (s : Session). s.refusal.number) e))
+results_one (Err c) (Err d) e = ap Err (refused_same c d (ap (λ (s : Session). s.refusal.number) e) (ap (λ (s : Session). s.refusal.block) e))

@@ -1,8 +1,8 @@
 -- What the theorems about printed tables speak of.
 use Rattle.std.specs.Prelude.{◌≢◌, ◌≡◌, ◌*◌, ℕ, drop, take}
 use Rattle.slices.specs.Slices.{none}
-use Rattle.budget.specs.declared.Answer.{Answer}
-use Rattle.session.specs.declared.Session.{Session}
+use Rattle.budget.specs.Answers.{Answer}
+use Rattle.session.specs.Sessions.{Session}
 
 -- lines of a table: "two rows, fresh and salt, of nine lines"
 abbrev pub lines_each : ℕ

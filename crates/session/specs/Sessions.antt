@@ -1,15 +1,23 @@
 -- What the program prints for a case (document 01, "Numbers worked by hand"), by its numbers: "It prints, in full".
-use Rattle.std.specs.Prelude.{Bool, ◌||◌, cond, List, [], ◌++◌, ◌+◌, suc, zero, ℕ, eqb, ltb, pos, ℤ, length, replicate}
+use Rattle.std.specs.Prelude.{Bool, ◌||◌, cond, Err, List, Ok, Result, [], ◌++◌, ◌+◌, suc, zero, ℕ, eqb, ltb, pos, ℤ, length, replicate}
 use Rattle.whole.specs.Lent.{over}
 use Rattle.grid.specs.Units.{most_across}
-use Rattle.slices.specs.declared.Refusal.{Refusal}
+use Rattle.slices.specs.declared.refusal.Refusal.{Refusal as Refused}
+use Rattle.slices.specs.Refusals.{Refusal, refusal_in}
 use Rattle.slices.specs.Slices.{Case, case_of, none, refusal, unless_refused}
 use Rattle.verdict.specs.declared.Verdict.{Verdict}
 use Rattle.verdict.specs.Ruling.{verdict_answer, no_verdict}
 use Rattle.budget.specs.Answers.{layer_answer, whole_answer}
 use Rattle.fields.specs.Fields.{most_slots}
 use Rattle.casefile.specs.Reading.{Read, reading_of}
-use Rattle.session.specs.declared.Session.{Session}
+use Rattle.session.specs.declared.Session.{Session as Printed}
+
+-- what is printed: a refusal, or beside number 0 a verdict, how many tables follow it, and the lines of the tables one after the other
+pub record Session : Type 0 where
+  pub refusal : Refusal
+  pub verdict : Verdict
+  pub tables : ℕ
+  pub lines : List ℤ
 
 -- lines of the most tables: one for each of 8 layers and one for the whole
 abbrev pub most_lines : ℕ
@@ -26,6 +34,14 @@ no_tables = replicate most_lines (pos 0)
 -- "a refusal prints `refused`, number, block": beside it nothing is judged, and all is 0
 abbrev pub refusing : Refusal → Session
 refusing r = record { refusal = r; verdict = no_verdict; tables = 0; lines = no_tables }
+
+-- what the functions' results say of it
+abbrev pub printed_in : Printed → Session
+printed_in s = record { refusal = none; verdict = s.verdict; tables = s.tables; lines = s.lines }
+
+abbrev pub session_in : Result Printed Refused → Session
+session_in (Ok s) = printed_in s
+session_in (Err e) = refusing (refusal_in {A = Printed} (Err e))
 
 -- "With verdict 21 or 22 only the first line is printed"
 abbrev pub first_line_only : ℕ → Bool

@@ -4,12 +4,11 @@
 
 ghost use Rattle.std.specs.Prelude.{false, ◌≡◌, ◌*◌, ◌+◌, ◌≤◌, length};
 ghost use Rattle.whole.specs.Lent.{over};
-ghost use Rattle.slices.specs.Slices.{case_of};
-ghost use Rattle.wellformed.specs.Limits.{checked_of};
+ghost use Rattle.slices.specs.Cases.{case_in};
 ghost use Rattle.verdict.specs.Ruling.{verdict_of};
 ghost use Rattle.zone.specs.Inner.{Worked};
 ghost use Rattle.budget.specs.Answers.{case_refusal};
-ghost use Rattle.session.specs.Sessions.{first_line_only, layers_of, tables_of, refusing, ruling, session_of, file_session};
+ghost use Rattle.session.specs.Sessions.{first_line_only, layers_of, tables_of, printed_in, session_in, ruling, session_of, file_session};
 
 use balance::balances::fill_balances;
 use books::rows::ROW;
@@ -17,22 +16,21 @@ use books::waters::fill_waters;
 use budget::{layer_on, whole_on};
 use casefile::read_case;
 use fields::MOST_SLOTS;
-use grid::Grid;
 use grid::units::{MOST_ACROSS, MOST_LAYERS};
-use slices::Refusal;
-use verdict::{NO_VERDICT, Verdict, verdict_of_rows};
-use wellformed::check_slices;
+use slices::Case;
+use slices::refusal::Refusal;
+use verdict::units::{DRY, MOVED};
+use verdict::{Verdict, verdict_of_rows};
+use wellformed::{WellFormedCase, check_slices};
 use whole::lent::copy_front;
 
-// A refusal, or beside number 0 a verdict and how many tables follow it: one for each layer from 1 and one for the whole, or none. A table has eighteen
-// lines, litres a day, as in `budget`, and the tables stand one after the other; all lines behind them are 0. Beside a refusal the verdict has code 20, not judged,
-// and all else is 0.
+// A verdict, and how many tables follow it: one for each layer from 1 and one for the whole, or none. A table has eighteen lines, litres a day, as in
+// `budget`, and the tables stand one after the other; all lines behind them are 0.
 #[derive(Clone, Copy)]
 pub struct Session {
-    pub refusal: Refusal,
     pub verdict: Verdict,
     pub tables: usize,
-    pub lines: [i64; 162],
+    pub lines: [i64; MOST_LINES],
 }
 
 // Lines of a table.
@@ -42,160 +40,139 @@ pub const LINES_EACH: usize = 18;
 pub const MOST_TABLES: usize = MOST_LAYERS + 1;
 
 // Lines of the most tables.
-const MOST_LINES: usize = LINES_EACH * MOST_TABLES;
+pub const MOST_LINES: usize = LINES_EACH * MOST_TABLES;
 
 // 8: "in the program, before all else, a file above 28,672 bytes".
 pub const MOST_FILE: usize = 28_672;
-
-// A refusal, beside which nothing is judged and all is 0.
-fn refused(refusal: Refusal) -> Session
-    ensures { result ≡ refusing refusal }
-{
-    Session {
-        refusal,
-        verdict: NO_VERDICT,
-        tables: 0,
-        lines: [0i64; MOST_LINES],
-    }
-}
 
 // "With verdict 21 or 22 only the first line is printed".
 fn first_line_only(code: u64) -> bool
     ensures { result ≡ first_line_only code }
 {
-    if code == 21 {
-        return true;
+    matches!(code, MOVED | DRY)
+}
+
+// A well-formed case with the thicknesses and the balances of all its blocks in rows: they are worked out once, for the verdict and for all tables.
+#[derive(Clone, Copy)]
+struct WorkedCase<'a> {
+    well_formed: WellFormedCase<'a>,
+    waters: &'a [i64],
+    balances: &'a [i64],
+    ghost worked: { Worked (case_in well_formed.case) waters.now balances.now },
+}
+
+impl<'a> WorkedCase<'a> {
+    // The tables of all layers into the front of a slice. Inner: the case is refused nothing, 13 included, and the slice has room.
+    fn fill_layers(&self, out: &mut [i64])
+        requires wet { (case_refusal (case_in self.now.well_formed.case)).number ≡ 0 }
+        requires layers_in_bounds { 18 * self.now.well_formed.case.grid.layers ≤ length out.old }
+        ensures { out.new ≡ over (layers_of (case_in self.now.well_formed.case) self.now.well_formed.case.grid.layers) out.old }
+    {
+        let case = self.well_formed.case;
+        for layer in 0..case.grid.layers {
+            let lines = layer_on(
+                case.grid,
+                case.columns,
+                case.rows,
+                case.slots,
+                self.waters,
+                self.balances,
+                layer + 1,
+            );
+            copy_front(&lines, &mut out[LINES_EACH * layer..]);
+        }
     }
-    code == 22
-}
 
-// The tables of all layers into the front of a slice, from rows that hold thicknesses and balances. Inner: the case is refused nothing, 13 included,
-// and the slice has room.
-fn fill_layers(
-    g: Grid,
-    columns: &[i64],
-    rows: &[i64],
-    slots: &[i64],
-    waters: &[i64],
-    balances: &[i64],
-    out: &mut [i64],
-)
-    requires worked { Worked (case_of g columns.now rows.now slots.now) waters.now balances.now }
-    requires slots_value { (case_refusal (case_of g columns.now rows.now slots.now)).number ≡ 0 }
-    requires layers_in_bounds { 18 * g.layers ≤ length out.old }
-    ensures { out.new ≡ over (layers_of (case_of g columns.now rows.now slots.now) g.layers) out.old }
-{
-    let layers = g.layers;
-    for layer in 0..layers {
-        let lines = layer_on(g, columns, rows, slots, waters, balances, layer + 1);
-        let at = LINES_EACH * layer;
-        copy_front(&lines, &mut out[at..]);
+    // The tables of all layers and then of the whole into the front of a slice. Inner: the case is refused nothing, 13 included, and the slice has room.
+    fn fill_tables(&self, out: &mut [i64])
+        requires wet { (case_refusal (case_in self.now.well_formed.case)).number ≡ 0 }
+        requires layers_in_bounds { 18 * (self.now.well_formed.case.grid.layers + 1) ≤ length out.old }
+        ensures { out.new ≡ over (tables_of (case_in self.now.well_formed.case)) out.old }
+    {
+        self.fill_layers(out);
+        let case = self.well_formed.case;
+        let lines = whole_on(
+            case.grid,
+            case.columns,
+            case.rows,
+            case.slots,
+            self.waters,
+            self.balances,
+        );
+        copy_front(&lines, &mut out[LINES_EACH * case.grid.layers..]);
     }
-}
 
-// The tables of all layers and then of the whole into the front of a slice. Inner: the case is refused nothing, 13 included, and the slice has room.
-fn fill_tables(
-    g: Grid,
-    columns: &[i64],
-    rows: &[i64],
-    slots: &[i64],
-    waters: &[i64],
-    balances: &[i64],
-    out: &mut [i64],
-)
-    requires worked { Worked (case_of g columns.now rows.now slots.now) waters.now balances.now }
-    requires slots_value { (case_refusal (case_of g columns.now rows.now slots.now)).number ≡ 0 }
-    requires layers_in_bounds { 18 * (g.layers + 1) ≤ length out.old }
-    ensures { out.new ≡ over (tables_of (case_of g columns.now rows.now slots.now)) out.old }
-{
-    fill_layers(g, columns, rows, slots, waters, balances, out);
-    let lines = whole_on(g, columns, rows, slots, waters, balances);
-    let at = LINES_EACH * g.layers;
-    copy_front(&lines, &mut out[at..]);
-}
-
-// What is printed beside a verdict on a case: "With verdict 21 or 22 only the first line is printed". Inner: the case is well formed, the rows hold
-// its thicknesses and its balances, and beside any other verdict no well is dry.
-fn ruled(
-    g: Grid,
-    columns: &[i64],
-    rows: &[i64],
-    slots: &[i64],
-    waters: &[i64],
-    balances: &[i64],
-    verdict: Verdict,
-) -> Session
-    requires worked { Worked (case_of g columns.now rows.now slots.now) waters.now balances.now }
-    requires slots_value { first_line_only verdict.code ≡ false → (case_refusal (case_of g columns.now rows.now slots.now)).number ≡ 0 }
-    ensures { result ≡ ruling (case_of g columns.now rows.now slots.now) verdict }
-{
-    let refusal = Refusal {
-        number: 0,
-        block: 0,
-    };
-    let mut lines = [0i64; MOST_LINES];
-    if first_line_only(verdict.code) {
-        return Session {
-            refusal,
-            verdict,
-            tables: 0,
-            lines,
+    // What is printed beside a verdict on the case. Inner: beside any verdict but 21 and 22 no well is dry.
+    #[tactic(auto, using(crate::proofs::SessionLaws::ruling_alone, crate::proofs::SessionLaws::ruling_tables))]
+    fn ruled(&self, verdict: Verdict) -> Session
+        requires { first_line_only verdict.code ≡ false → (case_refusal (case_in self.now.well_formed.case)).number ≡ 0 }
+        ensures { printed_in result ≡ ruling (case_in self.now.well_formed.case) verdict }
+    {
+        let mut lines = [0i64; MOST_LINES];
+        let tables = if first_line_only(verdict.code) {
+            0
+        } else {
+            self.fill_tables(&mut lines);
+            self.well_formed.case.grid.layers + 1
         };
-    }
-    fill_tables(g, columns, rows, slots, waters, balances, &mut lines);
-    Session {
-        refusal,
-        verdict,
-        tables: g.layers + 1,
-        lines,
+        Session {
+            verdict,
+            tables,
+            lines,
+        }
     }
 }
 
-// What is printed for a case that is not refused. Thicknesses and balances of every block are worked out once, for the verdict and for all tables.
-// Inner: the case is not refused.
-fn session_of_case(g: Grid, columns: &[i64], rows: &[i64], slots: &[i64]) -> Session
-    requires { (checked_of (case_of g columns.now rows.now slots.now)).number ≡ 0 }
-    ensures { result ≡ ruling (case_of g columns.now rows.now slots.now) (verdict_of (case_of g columns.now rows.now slots.now)) }
+// What is printed for a case that is refused nothing.
+fn session_of_case(well_formed: WellFormedCase<'_>) -> Session
+    ensures { printed_in result ≡ ruling (case_in well_formed.entry.case) (verdict_of (case_in well_formed.entry.case)) }
 {
+    let case = well_formed.case;
     let mut waters = [0i64; ROW];
-    fill_waters(g, slots, &mut waters);
+    fill_waters(case.grid, case.slots, &mut waters);
     let mut balances = [0i64; ROW];
-    fill_balances(g, columns, rows, slots, &waters, &mut balances);
-    let verdict = verdict_of_rows(g, slots, &waters, &balances);
-    ruled(g, columns, rows, slots, &waters, &balances, verdict)
+    fill_balances(
+        case.grid,
+        case.columns,
+        case.rows,
+        case.slots,
+        &waters,
+        &mut balances,
+    );
+    let verdict = verdict_of_rows(case.grid, case.slots, &waters, &balances);
+    let worked = WorkedCase {
+        well_formed,
+        waters: &waters,
+        balances: &balances,
+    };
+    worked.ruled(verdict)
 }
 
-// What is printed for a case in slices, or what it is refused with: 3, 7, 4, 5, 6, 9 or 10. `columns` and `rows` are the widths in metres. Any numbers, and
-// slices of any length, are answered.
-pub fn session_of_slices(g: Grid, columns: &[i64], rows: &[i64], slots: &[i64]) -> Session
-    ensures { result ≡ session_of (case_of g columns.now rows.now slots.now) }
+// What is printed for a case in slices, or what it is refused with: 3, 7, 4, 5, 6, 9 or 10. Any numbers, and slices of any length, are answered.
+#[tactic(auto, using(crate::proofs::SessionLaws::session_refused, crate::proofs::SessionLaws::session_ruled, slices::proofs::SlicesLaws::refused_some))]
+pub fn session_of_slices(case: Case<'_>) -> Result<Session, Refusal>
+    ensures { session_in result ≡ session_of (case_in case.entry) }
 {
-    let refusal = check_slices(g, columns, rows, slots);
-    if refusal.number != 0 {
-        return refused(refusal);
-    }
-    session_of_case(g, columns, rows, slots)
+    Ok(session_of_case(check_slices(case)?))
 }
 
 // What is printed for a file: 8 where it has more than 28,672 bytes, or what the file is refused with as it is read, or what is printed for the case in it.
 // Any bytes are answered.
-pub fn session_of_file(file: &[u8]) -> Session
-    ensures { result ≡ file_session file.now }
+#[tactic(auto, using(crate::proofs::SessionLaws::file_long, crate::proofs::SessionLaws::file_read, crate::proofs::SessionLaws::read_refused, crate::proofs::SessionLaws::read_unrefused))]
+pub fn session_of_file(file: &[u8]) -> Result<Session, Refusal>
+    ensures { session_in result ≡ file_session file.now }
 {
     if MOST_FILE < file.len() {
-        return refused(Refusal {
-            number: 8,
-            block: 0,
-        });
+        return Err(Refusal::Excess);
     }
     let mut columns = [0i64; MOST_ACROSS];
     let mut rows = [0i64; MOST_ACROSS];
     let mut slots = [0i64; MOST_SLOTS];
-    let answer = read_case(file, &mut columns, &mut rows, &mut slots);
-    let refusal = answer.refusal;
-    if refusal.number != 0 {
-        return refused(refusal);
-    }
-    let grid = answer.grid;
-    session_of_slices(grid, &columns, &rows, &slots)
+    let grid = read_case(file, &mut columns, &mut rows, &mut slots)?;
+    session_of_slices(Case {
+        grid,
+        columns: &columns,
+        rows: &rows,
+        slots: &slots,
+    })
 }

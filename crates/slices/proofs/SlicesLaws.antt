@@ -1,5 +1,6 @@
 -- Laws of judging: the order of refusals, which block is named, and what a case that is not refused gives, both ways. Assumes nothing.
 use mathlib.Core.Bool.{Bool, ◌&&◌, cond, false, not, true}
+use Rattle.std.specs.Prelude.{Option, Some, None, Result, Ok, Err, slice_get}
 use mathlib.Core.List.{List, [], ◌++◌, ◌∷◌}
 use mathlib.Core.Path.{◌∙◌, ◌≡◌, ap, ap₂, refl, sym}
 use Prim.Native.Nat.{◌*◌, ◌+◌, ◌-◌, ◌<◌, ◌≤◌, suc, zero, ℕ}
@@ -11,7 +12,7 @@ use lib.ListN.{length}
 use borrow.Author.Tests.{eq-eqb, ne_eqb, not-false}
 use Rattle.whole.specs.declared.ranges.Range.{Range}
 use Rattle.whole.specs.Ranges.{all_within, between}
-use Rattle.whole.specs.Search.{first_of}
+use Rattle.whole.specs.Search.{first_of, found_of}
 use Rattle.whole.proofs.SearchLaws.{both, first_found, first_is, first_none, holds, joint, none_first, true_is}
 use Rattle.whole.proofs.WithinLaws.{within_all, within_at}
 use Rattle.grid.specs.declared.Grid.{Grid}
@@ -23,7 +24,9 @@ use Rattle.slots.specs.Rules.{slots_hold}
 use Rattle.slots.specs.Slots.{part_of}
 use Rattle.slots.specs.Units.{slots_each}
 use Rattle.slots.proofs.SlotsLaws.{slots_active, slots_inactive, slots_stand}
-use Rattle.slices.specs.declared.Refusal.{Refusal}
+use Rattle.slices.specs.Refusals.{Refusal, block_of, number_of, refusal_in}
+use Rattle.slices.specs.declared.refusal.Refusal.{Refusal as Refused}
+use Rattle.slices.specs.declared.refusal.Refusal.TheVariants.{Ended, TooLong, Counts, Terms, Widths, Slots, Short, Excess, Overlap, Conductance, Marks, Double, DryWell, NoBlock}
 use Rattle.slices.specs.Slices.{Case, blaming, contents_of, fault_of, first_refusal, lent_of, most_width, none, or_else, refusal, room_holds, shape_of, slots_fail, unless, unless_refused, widths_hold}
 use Rattle.slices.specs.Inner.{Judged, Roomy, judged_lent, judged_of}
 use Rattle.slices.specs.Meaning.{NamesFirst}
@@ -80,6 +83,17 @@ pub blames_on : (n b : ℕ) (y : Refusal) → b ≤ 0 → y ≡ or_else (blaming
 blames_on n zero y l = sym (or_next none y refl)
 blames_on n (suc b) y l = absurd (omega arith)
 
+-- the same of a block that was looked for
+pub blames_found : (n b x : ℕ) (y : Refusal) → (n ≡ 0 → ⊥) → found_of x ≡ Some b → refusal n b ≡ or_else (blaming n x) y
+blames_found n b zero y h e = cc
+blames_found n b (suc x) y h e =
+    let same : suc x ≡ b = cc in
+    rw (← same) (blames_some n (suc x) y h (omega arith))
+
+pub blames_nobody : (n x : ℕ) (y : Refusal) → found_of x ≡ None → y ≡ or_else (blaming n x) y
+blames_nobody n zero y e = blames_on n zero y (omega arith)
+blames_nobody n (suc x) y e = cc
+
 -- neither run refuses
 pub or_none : (x y : Refusal) → (or_else x y).number ≡ 0 → (x.number ≡ 0) × (y.number ≡ 0)
 unfolding or_else
@@ -131,6 +145,67 @@ holds_among n false h m e = h (none_among m e)
 pub blames_none : (n b : ℕ) {xs : List Refusal} → (n ≡ 0 → ⊥) → Among (blaming n b) xs → (first_refusal xs).number ≡ 0 → b ≡ 0
 blames_none n zero h m e = refl
 blames_none n (suc b) h m e = absurd (h (none_among m e))
+
+-- ---- what the functions answer with
+
+-- a refusal that is answered has a number
+pub refused_some : (e : Refused) → number_of e ≡ 0 → ⊥
+refused_some e h = go e h
+  where
+    go : (e : Refused) → number_of e ≡ 0 → ⊥
+    go Ended h = cc
+    go TooLong h = cc
+    go Counts h = cc
+    go Terms h = cc
+    go Widths h = cc
+    go (Slots block) h = cc
+    go Short h = cc
+    go Excess h = cc
+    go (Overlap block) h = cc
+    go (Conductance block) h = cc
+    go Marks h = cc
+    go Double h = cc
+    go (DryWell block) h = cc
+    go (NoBlock number) h = cc
+
+-- a refusal by its number and its block
+refused_by : ℕ → ℕ → Option Refused
+refused_by n b =
+    slice_get
+    (Ended ∷ Ended ∷ TooLong ∷ Counts ∷ Terms ∷ Widths ∷ Slots b ∷ Short ∷ Excess ∷ Overlap b ∷ Conductance b ∷ Marks ∷ Double ∷ DryWell b ∷ NoBlock b ∷ [])
+    n
+
+refused_back : (e : Refused) → refused_by (number_of e) (block_of e) ≡ Some e
+unfolding refused_by
+refused_back Ended = refl
+refused_back TooLong = refl
+refused_back Counts = refl
+refused_back Terms = refl
+refused_back Widths = refl
+refused_back (Slots block) = refl
+refused_back Short = refl
+refused_back Excess = refl
+refused_back (Overlap block) = refl
+refused_back (Conductance block) = refl
+refused_back Marks = refl
+refused_back Double = refl
+refused_back (DryWell block) = refl
+refused_back (NoBlock number) = refl
+
+-- so number and block tell which it is
+pub refused_same : (e f : Refused) → number_of e ≡ number_of f → block_of e ≡ block_of f → e ≡ f
+refused_same e f p q =
+    let a = refused_back e in
+    let b = refused_back f in
+    let same : Some e ≡ Some f = sym a ∙ ap₂ refused_by p q ∙ b in
+    cc
+
+-- and so does what is answered, where any two values that pass are the same
+pub answers_same : {A : Type 0} (r s : Result A Refused) → ((x y : A) → r ≡ Ok x → s ≡ Ok y → x ≡ y) → refusal_in r ≡ refusal_in s → r ≡ s
+answers_same (Ok x) (Ok y) same e = ap Ok (same x y refl refl)
+answers_same (Ok x) (Err d) same e = absurd (refused_some d (sym (ap (λ r. r.number) e)))
+answers_same (Err d) (Ok y) same e = absurd (refused_some d (ap (λ r. r.number) e))
+answers_same (Err c) (Err d) same e = ap Err (refused_same c d (ap (λ r. r.number) e) (ap (λ r. r.block) e))
 
 -- ---- which block is named
 
@@ -210,6 +285,21 @@ module _ (c : Case) (reaches : Bool) where
   unfolding lent_of shape_of first_refusal or_else
   judged_joint e t = rw (true_is {b = reaches} t) e
 
+-- ---- a case judged step by step, with all that is lent
+
+module _ (c : Case) (reaches : Bool) where
+  pub judged_shape : (r : Refusal) → (r.number ≡ 0 → ⊥) → r ≡ first_refusal (shape_of c) → r ≡ judged_lent c reaches
+  unfolding lent_of
+  judged_shape r some e = first_stays (lent_of c reaches) (contents_of c) r (first_stays (shape_of c) (unless 7 reaches ∷ []) r e some) some
+
+  pub judged_short : none ≡ first_refusal (shape_of c) → reaches ≡ false → refusal 7 0 ≡ judged_lent c reaches
+  judged_short e short =
+      first_stays (lent_of c reaches) (contents_of c) (refusal 7 0) (ap (unless 7) (sym short) ∙ lent_alone c reaches (ap (λ r. r.number) (sym e))) (omega arith)
+
+  pub judged_contents : (r : Refusal) → none ≡ first_refusal (shape_of c) → reaches ≡ true → r ≡ first_refusal (contents_of c) → r ≡ judged_lent c reaches
+  judged_contents r e long told =
+      first_goes_on (lent_of c reaches) (contents_of c) (unless 7 true) (ap (unless 7) (sym long) ∙ lent_alone c reaches (ap (λ r. r.number) (sym e))) r refl told
+
 -- ---- what holds of a case that is not refused
 
 pub room_roomy : (c : Case) → T (room_holds c) → Roomy c
@@ -240,6 +330,9 @@ shape_stands c e = (
   counts_counted c.grid (holds_among 3 (counts_hold c.grid) (omega arith) (search (here, later)) e),
   room_roomy c (holds_among 7 (room_holds c) (omega arith) (search (here, later)) e),
 )
+
+pub shape_passed : (c : Case) → none ≡ first_refusal (shape_of c) → Counted c.grid × Roomy c
+shape_passed c e = shape_stands c (ap (λ r. r.number) (sym e))
 
 -- nor do they, where the counts are in range and there is room
 pub shape_passes : (c : Case) → T (counts_hold c.grid) → Roomy c → (first_refusal (shape_of c)).number ≡ 0
@@ -284,6 +377,9 @@ judged_stands c e =
       active = λ i l. slots_active (part_of c.slots i) (top_of c.grid i) (stands i l);
       inactive = λ i l. slots_inactive (part_of c.slots i) (top_of c.grid i) (stands i l);
     }
+
+pub judged_runs : (c : Case) → none ≡ first_refusal (shape_of c) → none ≡ first_refusal (contents_of c) → Judged c
+judged_runs c e f = judged_stands c (none_together (shape_of c) (contents_of c) (ap (λ r. r.number) (sym e)) (ap (λ r. r.number) (sym f)))
 
 -- And the other way round: a case with these ranges is not refused.
 pub stands_judged : (c : Case) → Judged c → (judged_of c).number ≡ 0

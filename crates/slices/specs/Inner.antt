@@ -9,7 +9,7 @@ use Rattle.grid.specs.Judging.{counts_hold}
 use Rattle.slots.specs.Units.{slots_each}
 use Rattle.slots.specs.Slots.{block_of, is_active, part_of}
 use Rattle.slots.specs.Inner.{Active}
-use Rattle.slices.specs.declared.Refusal.{Refusal}
+use Rattle.slices.specs.Refusals.{Refusal}
 use Rattle.slices.specs.Slices.{Case, contents_of, first_refusal, lent_of, most_width, shape_of}
 
 -- "Slices are judged 3, 7, 4, 5, 6": the first of these that refuses the case

@@ -8,7 +8,7 @@ use Rattle.grid.specs.Judging.{counts_hold, terms_hold}
 use Rattle.slots.specs.Units.{slots_each}
 use Rattle.slots.specs.Slots.{part_of}
 use Rattle.slots.specs.Rules.{slots_hold}
-use Rattle.slices.specs.declared.Refusal.{Refusal}
+use Rattle.slices.specs.Refusals.{Refusal}
 
 -- a case as slices hold it: the record, the widths of columns and rows in metres, and the slots, sixteen to a block
 pub record Case : Type 0 where

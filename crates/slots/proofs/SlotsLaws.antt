@@ -1,26 +1,32 @@
 -- Laws of a block's slots: the table's rule, and what slots that stand tell of each slot. Assumes nothing.
 use mathlib.Core.Path.{◌≡◌, refl, sym, ap, ap₂, ◌∙◌}
-use mathlib.Core.Bool.{Bool, true, false, not, cond, ◌&&◌}
+use mathlib.Core.Bool.{Bool, true, false, not, cond, ◌&&◌, ◌||◌}
 use mathlib.Core.List.{List, [], ◌∷◌}
 use Prim.Native.Nat.{ℕ, zero, suc, ◌+◌, ◌*◌, ◌<◌}
 use native.Mathlib.Omega.{arith}
-use lib.Dec.{T}
-use lib.IntN.{ℤ, pos, neg_ℤ}
+use mir.Syntax.{w64}
+use mir.Val.{SFits, of_z, to_z}
+use borrow.Author.Tests.{eq-eqb}
+use lib.Dec.{T, eqb, eqb→eq}
+use lib.IntN.{ℤ, pos, neg_ℤ, ◌+ℤ◌, ◌-ℤ◌}
 use lib.ListN.{get_or}
 use lib.Seq.{get_or-drop}
-use lib.Signed.{◌≤ℤ◌, ≤ℤ_refl, le_z, le_z_yes, lt_z_yes}
+use lib.Signed.{◌≤ℤ◌, ≤ℤ_refl, le_z, le_z_yes, lt_z, lt_z_yes}
 use Rattle.whole.specs.declared.ranges.Range.{Range}
 use Rattle.whole.specs.Inner.{In}
 use Rattle.whole.specs.Search.{every}
+use Rattle.whole.specs.Whole.{is_zero}
 use Rattle.whole.specs.Ranges.{between, in_range, all_within}
-use Rattle.whole.proofs.OrderLaws.{≤ℤ_antisymm, one_least}
-use Rattle.whole.proofs.SearchLaws.{both, every_all, every_start, every_more, cond_true, cond_false, true_is}
+use Rattle.whole.proofs.OrderLaws.{≤ℤ_antisymm, no_difference, none_apart, one_least}
+use Rattle.whole.proofs.RangeLaws.{exact, ranges, read, same_bits}
+use Rattle.whole.proofs.SearchLaws.{both, holds, every_all, every_start, every_more, cond_true, cond_false, same_test, true_is}
 use Rattle.whole.proofs.WithinLaws.{range_in, in_ranged, within_at, within_all}
+use Rattle.slots.specs.declared.Block.{Block}
 use Rattle.slots.specs.Units.{slots_each, most_pumpage}
 use Rattle.slots.specs.Ranges.{range_of, ends_hold}
 use Rattle.slots.specs.Slots.{slots_at, block_of, is_active}
 use Rattle.slots.specs.Inner.{Active, Ends}
-use Rattle.slots.specs.Rules.{all_zero, rules_hold, slots_hold}
+use Rattle.slots.specs.Rules.{all_zero, open_holds, rules_hold, screen_within, slots_hold}
 
 -- ---- the table's rule: its ends are the right way round, and none is further from 0 than the greatest pumpage
 
@@ -41,12 +47,44 @@ table_ruled slot l =
     record { least = le_z_yes h.0; ordered = le_z_yes k.0; most = le_z_yes k.1 }
 
 -- ---- K stands first
+pub slots_told : (s : List ℤ) (top : Bool) → slots_hold s top ≡ cond (lt_z (pos 0) (get_or s 0 (pos 0))) (ends_hold s && rules_hold (slots_at s) top) (all_zero s)
+unfolding slots_hold slots_at
+slots_told s top = refl
+
 pub first_slot : (slots : List ℤ) (i : ℕ) → get_or slots (slots_each * i) (pos 0) ≡ (block_of slots i).k
 unfolding slots_at
 first_slot slots i = ap (λ (k : ℕ). get_or slots k (pos 0)) (same (slots_each * i)) ∙ sym (get_or-drop (slots_each * i) slots 0 (pos 0))
   where
     same : (n : ℕ) → n ≡ n + 0
     same n = omega arith
+
+-- ---- two kinds are the same, as the machine asks it of their bits, where nothing is between them
+pub kinds_alike : (x y : ℤ) → SFits w64 x → SFits w64 y → eqb (of_z w64 x) (of_z w64 y) ≡ is_zero (x -ℤ y)
+kinds_alike x y f g = same_test (eqb (of_z w64 x) (of_z w64 y)) (is_zero (x -ℤ y)) same apart
+  where
+    same : T (eqb (of_z w64 x) (of_z w64 y)) → T (is_zero (x -ℤ y))
+    same t = rw (same_bits f g (eqb→eq (of_z w64 x) (of_z w64 y) t)) (holds (no_difference y))
+
+    apart : T (is_zero (x -ℤ y)) → T (eqb (of_z w64 x) (of_z w64 y))
+    apart t = holds (eq-eqb (of_z w64 x) (of_z w64 y) (ap (of_z w64) (none_apart x y t)))
+
+-- ---- what the rules compare, as the machine reads it
+abbrev bits : ℤ → ℤ
+bits z = to_z w64 (of_z w64 z)
+
+pub open_told : (b : Block) → Ends b
+    → open_holds b.kind b.level b.boundary_leakance ≡ (le_z (pos 1) (bits b.boundary_leakance) && (le_z (bits b.kind) (pos 1) || le_z (bits b.level) (pos 0)))
+unfolding open_holds
+open_told b e = λ i. le_z (pos 1) (sym (read e.boundary_leakance tt) i) && (le_z (sym (read e.kind tt) i) (pos 1) || le_z (sym (read e.level tt) i) (pos 0))
+
+pub screen_told : (b : Block) → Ends b
+    → screen_within b.base b.screen_bottom b.screen_top (b.base +ℤ b.thickness)
+    ≡ (le_z (bits b.base) (bits b.screen_bottom) && (lt_z (bits b.screen_bottom) (bits b.screen_top) && le_z (bits b.screen_top) (bits (bits b.base +ℤ bits b.thickness))))
+unfolding screen_within
+screen_told b e = λ i. screen_within (sym (read e.base tt) i) (sym (read e.screen_bottom tt) i) (sym (read e.screen_top tt) i) (sym top i)
+  where
+    top : bits (bits b.base +ℤ bits b.thickness) ≡ b.base +ℤ b.thickness
+    top = exact (search ranges depth 20)
 
 -- ---- slots alike in their first numbers
 

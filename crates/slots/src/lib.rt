@@ -14,7 +14,7 @@ use units::SLOTS_EACH;
 // A block's slots. Units: ticks for base, thickness, screens, level and heads; mm/day for k; per mille for porosity; 10^-6 a day
 // for the leakances; µm/day for recharge; litres a day for pumpage, positive where taken out. The level is the stage of a river or
 // the floor of a sea.
-#[derive(Clone, Copy)]
+#[derive(Clone, Copy, Debug, PartialEq, Eq)]
 pub struct Block {
     pub k: i64,
     pub base: i64,
@@ -35,6 +35,7 @@ pub struct Block {
 }
 
 // The first sixteen numbers of a part of the slots. Inner: there are so many.
+#[tactic(auto, unfolding(crate::specs::Slots::slots_at))]
 pub fn slots_at(part: &[i64]) -> Block
     requires { 16 ≤ length part.now }
     ensures { result ≡ slots_at part.now }
@@ -60,12 +61,12 @@ pub fn slots_at(part: &[i64]) -> Block
 }
 
 // Whether a block of the lent slots, counted from 0, is active: "0 is inactive", of K. Inner: the slots reach so far.
+#[tactic(auto, using(crate::proofs::SlotsLaws::first_slot))]
 pub fn is_active(slots: &[i64], block: usize) -> bool
     requires { 16 * block + 16 ≤ length slots.now }
     ensures { result ≡ is_active (block_of slots.now block) }
 {
-    let at = SLOTS_EACH * block;
-    0 < slots[at]
+    0 < slots[SLOTS_EACH * block]
 }
 
 // A block of the lent slots, counted from 0. Inner: the slots reach so far.
@@ -73,6 +74,5 @@ pub fn load(slots: &[i64], block: usize) -> Block
     requires { 16 * block + 16 ≤ length slots.now }
     ensures { result ≡ block_of slots.now block }
 {
-    let at = SLOTS_EACH * block;
-    slots_at(&slots[at..])
+    slots_at(&slots[SLOTS_EACH * block..])
 }

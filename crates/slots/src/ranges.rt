@@ -8,18 +8,33 @@ use super::units::{
 };
 use whole::ranges::{Range, in_range};
 
+// Bases, heads and stages or floors, ticks.
+const LEVELS: Range = Range {
+    lower: -MOST_LEVEL,
+    upper: MOST_LEVEL,
+};
+
+// Screen bottoms and tops, ticks.
+const SCREENS: Range = Range {
+    lower: -MOST_LEVEL,
+    upper: MOST_SCREEN,
+};
+
+// The leakance to the block above and the boundary's, 10^-6 a day.
+const LEAKANCES: Range = Range {
+    lower: 0,
+    upper: MOST_LEAKANCE,
+};
+
 // "The lower and upper end for each slot stand in one fixed table", in the slots' order.
-const RANGES: [Range; 16] = [
+const RANGES: [Range; SLOTS_EACH] = [
     // K, mm/day
     Range {
         lower: 0,
         upper: MOST_K,
     },
-    // base, ticks
-    Range {
-        lower: -MOST_LEVEL,
-        upper: MOST_LEVEL,
-    },
+    // base
+    LEVELS,
     // thickness, ticks
     Range {
         lower: 1,
@@ -30,11 +45,8 @@ const RANGES: [Range; 16] = [
         lower: 1,
         upper: MOST_POROSITY,
     },
-    // leakance to the block above, 10^-6 a day
-    Range {
-        lower: 0,
-        upper: MOST_LEAKANCE,
-    },
+    // leakance to the block above
+    LEAKANCES,
     // recharge, µm/day
     Range {
         lower: 0,
@@ -45,62 +57,34 @@ const RANGES: [Range; 16] = [
         lower: -MOST_PUMPAGE,
         upper: MOST_PUMPAGE,
     },
-    // screen bottom, ticks
-    Range {
-        lower: -MOST_LEVEL,
-        upper: MOST_SCREEN,
-    },
-    // screen top, ticks
-    Range {
-        lower: -MOST_LEVEL,
-        upper: MOST_SCREEN,
-    },
+    // screen bottom and top
+    SCREENS,
+    SCREENS,
     // boundary kind
     Range {
         lower: 0,
         upper: MOST_KIND,
     },
-    // stage or floor, ticks
-    Range {
-        lower: -MOST_LEVEL,
-        upper: MOST_LEVEL,
-    },
-    // boundary leakance, 10^-6 a day
-    Range {
-        lower: 0,
-        upper: MOST_LEAKANCE,
-    },
-    // old fresh head, ticks
-    Range {
-        lower: -MOST_LEVEL,
-        upper: MOST_LEVEL,
-    },
-    // old salt head, ticks
-    Range {
-        lower: -MOST_LEVEL,
-        upper: MOST_LEVEL,
-    },
-    // new fresh head, ticks
-    Range {
-        lower: -MOST_LEVEL,
-        upper: MOST_LEVEL,
-    },
-    // new salt head, ticks
-    Range {
-        lower: -MOST_LEVEL,
-        upper: MOST_LEVEL,
-    },
+    // stage or floor
+    LEVELS,
+    // boundary leakance
+    LEAKANCES,
+    // old fresh, old salt, new fresh and new salt head
+    LEVELS,
+    LEVELS,
+    LEVELS,
+    LEVELS,
 ];
 
 // The ends of a slot, counted from 0; 0 and 0 where there is no such slot.
+#[tactic(auto, unfolding(crate::specs::Ranges::range_of))]
 pub fn range_of(slot: usize) -> Range
     ensures { result ≡ range_of slot }
 {
-    if slot < SLOTS_EACH {
-        RANGES[slot]
-    } else {
-        Range { lower: 0, upper: 0 }
-    }
+    RANGES
+        .get(slot)
+        .copied()
+        .unwrap_or(Range { lower: 0, upper: 0 })
 }
 
 // Whether each of the sixteen lies within the ends of its slot. Inner: there are so many.
@@ -108,11 +92,8 @@ pub fn ends_hold(part: &[i64]) -> bool
     requires { 16 ≤ length part.now }
     ensures { result ≡ ends_hold part.now }
 {
-    let table = RANGES;
-    for slot in 0..SLOTS_EACH {
-        let value = part[slot];
-        let range = table[slot];
-        if !in_range(range, value) {
+    for (value, range) in part.iter().zip(RANGES.iter()) {
+        if !in_range(*range, *value) {
             return false;
         }
     }

@@ -1,6 +1,5 @@
 // The rules that a block's slots follow beyond their ends: inactive or active, screens, layer, boundary.
-ghost use Rattle.std.specs.Prelude.{◌≡◌, ◌&&◌, ◌≤◌, pos, length};
-ghost use Rattle.whole.specs.Whole.{is_zero};
+ghost use Rattle.std.specs.Prelude.{◌≡◌, ◌≤◌, ◌+ℤ◌, pos, length};
 ghost use Rattle.whole.specs.Inner.{In};
 ghost use Rattle.slots.specs.Rules.{all_zero, screen_within, screens_hold, layer_holds, is_open, is_kind, is_sea, open_holds, boundary_holds, rules_hold, slots_hold};
 ghost use Rattle.slots.specs.Units.{most_kind};
@@ -9,7 +8,6 @@ ghost use Rattle.slots.specs.Inner.{Ends};
 use super::ranges::ends_hold;
 use super::units::SLOTS_EACH;
 use super::{Block, slots_at};
-use whole::both_zero;
 use whole::ranges::{Range, all_within, in_range};
 
 // 0 alone.
@@ -19,6 +17,7 @@ const ZERO: Range = Range { lower: 0, upper: 0 };
 pub const OPEN_KINDS: Range = Range { lower: 1, upper: 2 };
 
 // "An inactive block has all 16 zero." Inner: there are so many.
+#[tactic(auto, unfolding(crate::specs::Rules::all_zero))]
 fn all_zero(part: &[i64]) -> bool
     requires { 16 ≤ length part.now }
     ensures { result ≡ all_zero part.now }
@@ -26,57 +25,50 @@ fn all_zero(part: &[i64]) -> bool
     all_within(part, SLOTS_EACH, ZERO)
 }
 
-// "base ≤ bottom < top ≤ aquifer top", in ticks.
-fn screen_within(base: i64, bottom: i64, top: i64, aquifer_top: i64) -> bool
-    ensures { result ≡ screen_within base bottom top aquifer_top }
+// "base ≤ bottom < top ≤ aquifer top", in ticks. Inner: the slots are within their ends.
+#[tactic(auto, using(crate::proofs::SlotsLaws::screen_told))]
+fn screen_within(block: Block) -> bool
+    requires { Ends block }
+    ensures { result ≡ screen_within block.base block.screen_bottom block.screen_top (block.base +ℤ block.thickness) }
 {
-    if base <= bottom {
-        if bottom < top {
-            return top <= aquifer_top;
-        }
-    }
-    false
+    block.base <= block.screen_bottom
+        && block.screen_bottom < block.screen_top
+        && block.screen_top <= block.base + block.thickness
 }
 
 // "base ≤ bottom < top ≤ aquifer top; both 0 if pumpage is 0". Inner: the slots are within their ends.
+#[tactic(auto, unfolding(crate::specs::Rules::screens_hold))]
 fn screens_hold(block: Block) -> bool
     requires { Ends block }
     ensures { result ≡ screens_hold block }
 {
-    if whole::is_zero(block.pumpage) {
-        return both_zero(block.screen_bottom, block.screen_top);
+    if block.pumpage == 0 {
+        block.screen_bottom == 0 && block.screen_top == 0
+    } else {
+        screen_within(block)
     }
-    screen_within(
-        block.base,
-        block.screen_bottom,
-        block.screen_top,
-        block.base + block.thickness,
-    )
 }
 
 // Leakance is "0 in the top layer", recharge "0 below the top layer". Inner: the slots are within their ends.
+#[tactic(auto, unfolding(crate::specs::Rules::layer_holds))]
 fn layer_holds(block: Block, top: bool) -> bool
     requires { Ends block }
     ensures { result ≡ layer_holds block top }
 {
     if top {
-        whole::is_zero(block.leakance)
+        block.leakance == 0
     } else {
-        whole::is_zero(block.recharge)
+        block.recharge == 0
     }
 }
 
 // A river's or a sea's two slots: the leakance is not 0, and a sea's floor not above 0.
-fn open_holds(kind: i64, level: i64, leakance: i64) -> bool
-    ensures { result ≡ open_holds kind level leakance }
+#[tactic(auto, using(crate::proofs::SlotsLaws::open_told))]
+fn open_holds(block: Block) -> bool
+    requires { Ends block }
+    ensures { result ≡ open_holds block.kind block.level block.boundary_leakance }
 {
-    if 1 <= leakance {
-        if kind <= 1 {
-            return true;
-        }
-        return level <= 0;
-    }
-    false
+    1 <= block.boundary_leakance && (block.kind <= 1 || block.level <= 0)
 }
 
 // Whether a block exchanges water with a river or a sea. Inner: the slots are within their ends.
@@ -88,12 +80,13 @@ pub fn is_open(block: Block) -> bool
 }
 
 // Whether a block is of a kind. Inner: the slots and the kind are within their ends.
+#[tactic(auto, using(crate::proofs::SlotsLaws::kinds_alike))]
 pub fn is_kind(block: Block, kind: i64) -> bool
     requires ends { Ends block }
     requires fact { In (pos 0) (pos most_kind) kind }
     ensures { result ≡ is_kind block kind }
 {
-    whole::is_zero(block.kind - kind)
+    block.kind == kind
 }
 
 // Whether a block exchanges water with a sea. Inner: the slots are within their ends.
@@ -106,43 +99,37 @@ pub fn is_sea(block: Block) -> bool
 
 // "Kinds 1 and 2 occur only in the top layer." "Kinds other than 1 and 2 have zero in their two boundary slots."
 // Inner: the slots are within their ends.
+#[tactic(auto, unfolding(crate::specs::Rules::boundary_holds))]
 fn boundary_holds(block: Block, top: bool) -> bool
     requires { Ends block }
     ensures { result ≡ boundary_holds block top }
 {
     if is_open(block) {
-        if top {
-            return open_holds(block.kind, block.level, block.boundary_leakance);
-        }
-        return false;
+        top && open_holds(block)
+    } else {
+        block.level == 0 && block.boundary_leakance == 0
     }
-    both_zero(block.level, block.boundary_leakance)
 }
 
 // "a block's remaining slot rules (screens, kind, layer)". Inner: the slots are within their ends.
+#[tactic(auto, unfolding(crate::specs::Rules::rules_hold))]
 fn rules_hold(block: Block, top: bool) -> bool
     requires { Ends block }
     ensures { result ≡ rules_hold block top }
 {
-    if screens_hold(block) {
-        if layer_holds(block, top) {
-            return boundary_holds(block, top);
-        }
-    }
-    false
+    screens_hold(block) && layer_holds(block, top) && boundary_holds(block, top)
 }
 
 // Whether a block's slots stand, in the top layer or below it: an inactive block all zero, an active one within its ends and by the
 // rules. Inner: there are sixteen.
+#[tactic(auto, using(crate::proofs::SlotsLaws::slots_told))]
 pub fn slots_hold(part: &[i64], top: bool) -> bool
     requires { 16 ≤ length part.now }
     ensures { result ≡ slots_hold part.now top }
 {
     if 0 < part[0] {
-        if ends_hold(part) {
-            return rules_hold(slots_at(part), top);
-        }
-        return false;
+        ends_hold(part) && rules_hold(slots_at(part), top)
+    } else {
+        all_zero(part)
     }
-    all_zero(part)
 }

@@ -4,121 +4,154 @@
 
 pub mod print;
 
-ghost use Rattle.std.specs.Prelude.{◌≡◌, ◌<◌, ◌≤◌, ◌+◌, ◌^◌, IfOk, length, take};
-
 use grid::Grid;
 use numbers::signed;
 use reading::read_full;
+use slices::Case;
 use std::fs::File;
 use std::io;
-use std::io::Read;
+use std::io::{Read, Write};
 
 // A program runs so many entries of a batch at most.
-pub const MOST_ENTRIES: usize = 100_000;
+const MOST_ENTRIES: usize = 100_000;
 
 // Room for the widths of a stored case along an axis, and for its slots: twice what the greatest grid needs, and more.
-pub const WIDTHS_ROOM: usize = 1_024;
+const WIDTHS_ROOM: usize = 1_024;
 
-pub const SLOTS_ROOM: usize = 16_384;
+const SLOTS_ROOM: usize = 16_384;
 
-// A number of a batch, or the batch's end.
-#[derive(Clone, Copy)]
-pub enum Due {
-    Number { number: u64 },
-    Ended,
+// The three slices of a case, as they are lent.
+#[derive(Drop)]
+pub struct Lent<'a> {
+    pub columns: &'a mut [i64],
+    pub rows: &'a mut [i64],
+    pub slots: &'a mut [i64],
 }
 
-// A batch, which is the file of that name where the program runs.
-pub fn open_batch(rt: &HostRuntime, name: &str) -> io::Result<File> {
-    File::open(rt, name)
+// Room for the three slices of a stored case.
+#[derive(Drop)]
+pub struct Room {
+    columns: [i64; WIDTHS_ROOM],
+    rows: [i64; WIDTHS_ROOM],
+    slots: [i64; SLOTS_ROOM],
 }
 
-// A byte as a wider number.
-fn wide(x: u8) -> u64
-    ensures { result < 256 }
-{
-    x as u64
-}
-
-// The number in four bytes from a place on, the lowest first. Inner: they are there.
-fn four_bytes(bytes: &[u8], at: usize) -> u64
-    requires { at + 4 ≤ length bytes.now }
-    ensures { result < 2 ^ 32 }
-{
-    wide(bytes[at])
-        + 256 * wide(bytes[at + 1])
-        + 65_536 * wide(bytes[at + 2])
-        + 16_777_216 * wide(bytes[at + 3])
-}
-
-// The next number of a batch in four bytes.
-pub fn next_number<R: Read>(batch: &mut R) -> io::Result<Due> {
-    let mut bytes = [0u8; 4];
-    let n = read_full(batch, &mut bytes)?;
-    if n < 4 {
-        return Ok(Due::Ended);
+impl Room {
+    // Room whose numbers are all alike.
+    pub fn filled(number: i64) -> Room {
+        Room {
+            columns: [number; WIDTHS_ROOM],
+            rows: [number; WIDTHS_ROOM],
+            slots: [number; SLOTS_ROOM],
+        }
     }
-    Ok(Due::Number {
-        number: four_bytes(&bytes, 0),
-    })
+
+    // Slices of the lengths that are next in a batch.
+    pub fn lend<R: Read>(&mut self, batch: &mut R) -> io::Result<Lent<'_>> {
+        let Room {
+            columns,
+            rows,
+            slots,
+        } = self;
+        Ok(Lent {
+            columns: next_part(batch, columns)?,
+            rows: next_part(batch, rows)?,
+            slots: next_part(batch, slots)?,
+        })
+    }
+
+    // The case that is next in a batch, its columns having been read: its record, the lengths of its slices, and these.
+    pub fn next_case<R: Read>(&mut self, batch: &mut R, columns: u64) -> io::Result<Case<'_>> {
+        let grid = record_after(batch, columns)?;
+        let Lent {
+            columns,
+            rows,
+            slots,
+        } = self.lend(batch)?;
+        fill(batch, columns)?;
+        fill(batch, rows)?;
+        fill(batch, slots)?;
+        Ok(Case {
+            grid,
+            columns,
+            rows,
+            slots,
+        })
+    }
 }
 
-// The next word of a batch, a number in eight bytes.
-pub fn next_word<R: Read>(batch: &mut R) -> io::Result<Due> {
-    let mut bytes = [0u8; 8];
+// The next bytes of a batch, as many as a number has, or none at its end.
+fn next_bytes<R: Read, const N: usize>(batch: &mut R) -> io::Result<Option<[u8; N]>> {
+    let mut bytes = [0u8; N];
     let n = read_full(batch, &mut bytes)?;
-    if n < 8 {
-        return Ok(Due::Ended);
-    }
-    Ok(Due::Number {
-        number: four_bytes(&bytes, 0) + 4_294_967_296 * four_bytes(&bytes, 4),
-    })
+    Ok(if n < N { None } else { Some(bytes) })
+}
+
+// The next number of a batch in four bytes, the lowest first, or none at its end.
+pub fn next_number<R: Read>(batch: &mut R) -> io::Result<Option<u64>> {
+    Ok(next_bytes(batch)?.map(|bytes| u64::from(u32::from_le_bytes(bytes))))
+}
+
+// The next word of a batch, a number in eight bytes, the lowest first, or none at its end.
+pub fn next_word<R: Read>(batch: &mut R) -> io::Result<Option<u64>> {
+    Ok(next_bytes(batch)?.map(u64::from_le_bytes))
 }
 
 // The next word of a batch, 0 at its end.
 pub fn word_or_zero<R: Read>(batch: &mut R) -> io::Result<u64> {
-    match next_word(batch)? {
-        Due::Ended => Ok(0),
-        Due::Number { number } => Ok(number),
-    }
+    Ok(next_word(batch)?.unwrap_or(0))
 }
 
-// The lesser of a length and the room for it.
-pub fn at_most(length: usize, room: usize) -> usize
-    ensures { result ≤ room }
-{
-    if length < room { length } else { room }
+// The next word of a batch, signed.
+fn next_signed<R: Read>(batch: &mut R) -> io::Result<i64> {
+    Ok(signed(word_or_zero(batch)?))
 }
 
-// The next word of a batch, as how many numbers of a slice are lent: all of them where the word says more. It takes the slice and not its length, so that
-// the contract can speak of the part that is lent.
-pub fn next_length<R: Read>(batch: &mut R, numbers: &[i64]) -> io::Result<usize>
-    ensures { IfOk result (λ n. (n ≤ length numbers.now) × (n ≡ length (take n numbers.now))) }
-{
-    Ok(at_most(word_or_zero(batch)? as usize, numbers.len()))
+// The front of a slice, as many numbers as the next word of a batch says: all of them where it says more.
+pub fn next_part<'a, R: Read>(batch: &mut R, numbers: &'a mut [i64]) -> io::Result<&'a mut [i64]> {
+    let count = (word_or_zero(batch)? as usize).min(numbers.len());
+    Ok(&mut numbers[..count])
 }
 
 // The next words of a batch, signed, over a slice.
 pub fn fill<R: Read>(batch: &mut R, numbers: &mut [i64]) -> io::Result<()> {
-    let count = numbers.len();
-    for k in 0..count {
-        let number = signed(word_or_zero(batch)?);
-        numbers[k] = number;
+    for z in numbers {
+        *z = next_signed(batch)?;
     }
     Ok(())
 }
 
 // The record of a stored case whose columns have been read: columns, rows, layers, δ, fresh weight, salt weight, flag, step, tolerance.
-pub fn record_after<R: Read>(batch: &mut R, columns: u64) -> io::Result<Grid> {
+fn record_after<R: Read>(batch: &mut R, columns: u64) -> io::Result<Grid> {
     Ok(Grid {
         columns: columns as usize,
         rows: word_or_zero(batch)? as usize,
         layers: word_or_zero(batch)? as usize,
-        delta: signed(word_or_zero(batch)?),
-        fresh_weight: signed(word_or_zero(batch)?),
-        salt_weight: signed(word_or_zero(batch)?),
+        delta: next_signed(batch)?,
+        fresh_weight: next_signed(batch)?,
+        salt_weight: next_signed(batch)?,
         flag: word_or_zero(batch)?,
-        step: signed(word_or_zero(batch)?),
-        tolerance: signed(word_or_zero(batch)?),
+        step: next_signed(batch)?,
+        tolerance: next_signed(batch)?,
     })
+}
+
+// Runs the entries of a batch, one after the other to its end: `next` reads the number that an entry begins with, and `run` what follows it. The batch is
+// the file of that name where the program runs.
+pub fn run_batch<
+    W: Write,
+    N: Fn(&mut File) -> io::Result<Option<u64>>,
+    F: Fn(&mut File, &mut W, u64) -> io::Result<()>,
+>(rt: &HostRuntime, name: &str, out: &mut W, next: N, run: F) -> io::Result<()>
+    requires next { N.IsAlwaysCallable next }
+    requires run { F.IsAlwaysCallable run }
+{
+    let mut batch = File::open(rt, name)?;
+    for _ in 0..MOST_ENTRIES {
+        let Some(number) = next(&mut batch)? else {
+            return Ok(());
+        };
+        run(&mut batch, out, number)?;
+    }
+    Ok(())
 }

@@ -1,25 +1,27 @@
 // What more than one program prints: the bits of a double, and what a boundary sets.
 use metres::boundary::BoundarySlots;
-use printing::{end_line, print_number, print_refusal, print_signed};
-use std::io;
+use printing::print_answer;
+use slices::refusal::Refusal;
 use std::io::Write;
+use std::{fmt, io};
 
-// A blank and the bits of a double.
-pub fn print_double<W: Write>(out: &mut W, metres: f64) -> io::Result<()> {
-    if metres.is_nan() {
-        return out.write_all(b" none");
+// A double as its bits, or `none` for what is no number.
+#[derive(Clone, Copy)]
+pub struct Bits(pub f64);
+
+impl fmt::Display for Bits {
+    fn fmt<W: fmt::Write>(&self, f: &mut fmt::Formatter<W>) -> fmt::Result {
+        let Bits(double) = *self;
+        if double.is_nan() {
+            return write!(f, "none");
+        }
+        write!(f, "{}", double.to_bits())
     }
-    print_number(out, f64::to_bits(metres))
 }
 
 // The kind and level that a boundary sets, or the refusal.
-pub fn print_set<W: Write>(out: &mut W, set: BoundarySlots) -> io::Result<()> {
-    let refusal = set.refusal;
-    if refusal.number != 0 {
-        return print_refusal(out, refusal);
-    }
-    out.write_all(b"set")?;
-    print_signed(out, set.kind)?;
-    print_signed(out, set.level)?;
-    end_line(out)
+pub fn print_set<W: Write>(out: &mut W, set: Result<BoundarySlots, Refusal>) -> io::Result<()> {
+    print_answer(out, set, |out, set| {
+        writeln!(out, "set {} {}", set.kind, set.level)
+    })
 }

@@ -1,51 +1,26 @@
-// What each function answers, in a line: a refusal, or a word and the numbers.
-use printing::{end_line, print_refusal, print_row, print_verdict};
-use session::LINES_EACH;
-use slices::Refusal;
+// What each function answers, in a line: a word and the numbers.
+use budget::Table;
+use printing::print_row;
+use report::Report;
 use std::io;
 use std::io::Write;
-use stored::print::print_double;
+use stored::print::Bits;
 
-// What the check says of a case: a refusal, or that it passes.
-pub fn print_check<W: Write>(out: &mut W, refusal: Refusal) -> io::Result<()> {
-    if refusal.number != 0 {
-        return print_refusal(out, refusal);
-    }
-    out.write_all(b"passed\n")
+// The eighteen lines of a zone's table.
+pub fn print_table<W: Write>(out: &mut W, lines: Table) -> io::Result<()> {
+    write!(out, "table")?;
+    print_row(out, &lines)
 }
 
-// A verdict, or the refusal.
-pub fn print_verdict_answer<W: Write>(out: &mut W, answer: verdict::Answer) -> io::Result<()> {
-    let refusal = answer.refusal;
-    if refusal.number != 0 {
-        return print_refusal(out, refusal);
-    }
-    print_verdict(out, answer.verdict)
-}
-
-// The eighteen lines of a zone's table, or the refusal.
-pub fn print_table<W: Write>(out: &mut W, answer: budget::Answer) -> io::Result<()> {
-    let refusal = answer.refusal;
-    if refusal.number != 0 {
-        return print_refusal(out, refusal);
-    }
-    let lines = answer.lines;
-    out.write_all(b"table")?;
-    print_row(out, &lines, 0, LINES_EACH)
-}
-
-// A block's five doubles, or the refusal.
-pub fn print_report<W: Write>(out: &mut W, answer: report::Answer) -> io::Result<()> {
-    let refusal = answer.refusal;
-    if refusal.number != 0 {
-        return print_refusal(out, refusal);
-    }
-    let report = answer.report;
-    out.write_all(b"report")?;
-    print_double(out, report.fresh_head)?;
-    print_double(out, report.salt_head)?;
-    print_double(out, report.interface)?;
-    print_double(out, report.fresh_thickness)?;
-    print_double(out, report.salt_thickness)?;
-    end_line(out)
+// A block's five doubles.
+pub fn print_report<W: Write>(out: &mut W, report: Report) -> io::Result<()> {
+    let fresh_head = Bits(report.fresh_head);
+    let salt_head = Bits(report.salt_head);
+    let interface = Bits(report.interface);
+    let fresh_thickness = Bits(report.fresh_thickness);
+    let salt_thickness = Bits(report.salt_thickness);
+    writeln!(
+        out,
+        "report {fresh_head} {salt_head} {interface} {fresh_thickness} {salt_thickness}"
+    )
 }

@@ -1,20 +1,23 @@
 -- Laws of places: a place is its block and its fluid, and what grid, slots and balances in range give at each. Assumes nothing.
 use mathlib.Core.Bool.{Bool, ◌&&◌, false, not, true, true≢false}
 use mathlib.Core.List.{List}
-use mathlib.Core.Path.{◌∙◌, ◌≡◌, ap, ap₂, refl}
-use Prim.Native.Nat.{◌%◌, ◌*◌, ◌+◌, ◌/◌, ◌<◌, ◌≤◌, suc, zero, ℕ}
+use mathlib.Core.Path.{◌∙◌, ◌≡◌, ap, ap₂, refl, sym}
+use Prim.Native.Nat.{◌%◌, ◌*◌, ◌+◌, ◌/◌, ◌<◌, ◌^◌, ◌≤◌, suc, zero, ℕ}
 use native.Mathlib.Nat.{div-add-mod', div-lt_iff_lt-mul, mod-lt, mul_comm}
 use native.Mathlib.Omega.{arith}
 use lib.Arith.{digits_div, digits_mod}
-use lib.Dec.{T}
-use lib.IntN.{◌-ℤ◌, negsuc, pos, ℤ}
+use lib.Dec.{T, eqb}
+use lib.IntN.{◌-ℤ◌, pos, ℤ}
 use lib.ListN.{length}
-use lib.Signed.{◌<ℤ◌, ◌≤ℤ◌, lt_z}
+use lib.Signed.{◌≤ℤ◌, lt_z, mag}
+use mir.Syntax.{w64}
+use mir.Val.{of_z}
+use borrow.Author.Tests.{eq-eqb, ne_eqb}
 use Rattle.whole.specs.Sum.{count}
 use Rattle.whole.specs.Whole.{is_zero}
-use Rattle.whole.proofs.LinearLaws.{from1, linear, signed}
+use Rattle.whole.proofs.LinearLaws.{linear, signed}
 use Rattle.whole.proofs.OrderLaws.{no_difference, none_apart}
-use Rattle.whole.proofs.RangeLaws.{lt_false, not_above}
+use Rattle.whole.proofs.RangeLaws.{lt_false, not_above, same_bits}
 use Rattle.whole.proofs.SearchLaws.{holds, not_second, second_not}
 use Rattle.whole.proofs.SumLaws.{only_on}
 use Rattle.grid.specs.declared.Grid.{Grid}
@@ -76,15 +79,17 @@ free_size_is slots β i fluid l t = rw (fluid_of i fluid l, block_of_lem i fluid
 pub paired : {n i : ℕ} {row : List ℤ} → Bounded n row → i < n → 2 * i + 2 ≤ length row
 paired b l = omega (arith, b.room, l)
 
+-- ---- two heads differ where their bits do, which the machine compares
+pub apart_bits : (a b : ℤ) → mag a < 2 ^ 63 → mag b < 2 ^ 63 → eqb (of_z w64 a) (of_z w64 b) ≡ is_zero (a -ℤ b)
+apart_bits a b f g = go (is_zero (a -ℤ b)) refl
+  where
+    go : (t : Bool) → is_zero (a -ℤ b) ≡ t → eqb (of_z w64 a) (of_z w64 b) ≡ t
+    go true e = eq-eqb (of_z w64 a) (of_z w64 b) (ap (of_z w64) (none_apart a b (holds e)))
+    go false e =
+        ne_eqb (of_z w64 a) (of_z w64 b)
+        (λ q. absurd (true≢false (sym (no_difference b) ∙ ap (λ z. is_zero (z -ℤ b)) (sym (same_bits {x = a} {y = b} (record { sfits = f }) (record { sfits = g }) q)) ∙ e)))
+
 -- ---- a number without its sign
-pub size_below : (z : ℤ) → z <ℤ pos 0 → pos 0 -ℤ z ≡ size_of z
-size_below (pos n) h = absurd (from1 h (search signed depth 30) (omega arith))
-size_below (negsuc n) h = linear (search signed depth 30) (omega arith)
-
-pub size_from_zero : (z : ℤ) → pos 0 ≤ℤ z → z ≡ size_of z
-size_from_zero (pos n) h = refl
-size_from_zero (negsuc n) h = absurd h.le
-
 pub size_least : (z : ℤ) → pos 0 ≤ℤ size_of z
 size_least z = linear (search signed depth 30) (omega arith)
 

@@ -15,15 +15,19 @@ use Rattle.whole.proofs.SumLaws.{count_same}
 use Rattle.grid.specs.declared.Grid.{Grid}
 use Rattle.grid.specs.Place.{blocks_of}
 use Rattle.slots.specs.Slots.{block_of}
-use Rattle.slices.specs.declared.Refusal.{Refusal}
+use Rattle.std.specs.Prelude.{Err, Ok, Result}
+use Rattle.slices.specs.declared.refusal.Refusal.{Refusal as Refused}
+use Rattle.slices.specs.Refusals.{Refusal, block_of as named_by, number_of}
+use Rattle.slices.specs.Slices.{none, refusal}
+use Rattle.slices.proofs.SlicesLaws.{refused_same, refused_some}
 use Rattle.block.specs.declared.Fluids.{Fluids}
 use Rattle.books.specs.Inner.{Slotted}
 use Rattle.books.specs.Waters.{dry_at}
 use Rattle.books.proofs.AlikeLaws.{dry_same}
-use Rattle.verdict.specs.declared.Answer.{Answer}
+use Rattle.verdict.specs.Ruling.{Answer}
 use Rattle.verdict.specs.declared.Verdict.{Verdict}
 use Rattle.verdict.specs.Places.{counted_at, counted_by, fails_at, free_at, free_size_of, moved_at, places_of}
-use Rattle.verdict.specs.Ruling.{answered, block_number, by_balance, code_of, concerning, count_of, first_place, largest_of, no_verdict, verdict_by}
+use Rattle.verdict.specs.Ruling.{answer_in, answered, block_number, by_balance, code_of, concerning, count_of, first_place, largest_of, no_verdict, verdict_by}
 use Rattle.verdict.proofs.PlacesLaws.{block_below, block_of_lem, count_by_fluid, counted_by_lem, fluid_below, free_same, moved_same, place_is}
 
 -- ---- by code
@@ -222,3 +226,17 @@ answered_refused r s v e n = rw (← e) (λ i. record { refusal = r; verdict = a
 
 pub answered_judged : (r s : Refusal) (v w : Verdict) → r ≡ s → r.number ≡ 0 → w ≡ v → ◌≡◌ {A = Answer} (record { refusal = r; verdict = w }) (answered s v)
 answered_judged r s v w e z f = rw (← e) (λ i. record { refusal = r; verdict = (f ∙ ap (λ (b : Bool). cond b v no_verdict) (sym (eq-eqb r.number 0 z))) i })
+
+-- the same of what a function's result is: a refusal, and a verdict
+pub answer_err : (e : Refused) (s : Refusal) (v : Verdict) → refusal (number_of e) (named_by e) ≡ s → answer_in (Err e) ≡ answered s v
+answer_err e s v told = answered_refused (refusal (number_of e) (named_by e)) s v told (refused_some e)
+
+pub answer_ok : (s : Refusal) (v w : Verdict) → none ≡ s → w ≡ v → answer_in (Ok w) ≡ answered s v
+answer_ok s v w told e = answered_judged none s v w told refl e
+
+-- and two results with one answer are one
+pub answers_one : (r s : Result Verdict Refused) → answer_in r ≡ answer_in s → r ≡ s
+answers_one (Ok x) (Ok y) e = ap Ok (ap (λ (a : Answer). a.verdict) e)
+answers_one (Ok x) (Err d) e = absurd (refused_some d (sym (ap (λ (a : Answer). a.refusal.number) e)))
+answers_one (Err d) (Ok y) e = absurd (refused_some d (ap (λ (a : Answer). a.refusal.number) e))
+answers_one (Err c) (Err d) e = ap Err (refused_same c d (ap (λ (a : Answer). a.refusal.number) e) (ap (λ (a : Answer). a.refusal.block) e))

@@ -1,14 +1,14 @@
 -- The verdict (document 01, "Balance, verdict, table"). The balances of all blocks are a function β.
-use Rattle.std.specs.Prelude.{cond, List, ◌%◌, ◌+◌, ◌/◌, suc, zero, ℕ, ltb, pos, ℤ}
+use Rattle.std.specs.Prelude.{cond, Err, List, Ok, Result, ◌%◌, ◌+◌, ◌/◌, suc, zero, ℕ, ltb, pos, ℤ}
 use Rattle.whole.specs.Search.{first_of, most_of}
 use Rattle.whole.specs.Sum.{count}
 use Rattle.grid.specs.declared.Grid.{Grid}
-use Rattle.slices.specs.declared.Refusal.{Refusal}
-use Rattle.slices.specs.Slices.{Case, unless_refused}
+use Rattle.slices.specs.declared.refusal.Refusal.{Refusal as Refused}
+use Rattle.slices.specs.Refusals.{Refusal, block_of, number_of}
+use Rattle.slices.specs.Slices.{Case, none, refusal, unless_refused}
 use Rattle.block.specs.declared.Fluids.{Fluids}
 use Rattle.wellformed.specs.Limits.{checked_of}
 use Rattle.balance.specs.Balance.{balances_of}
-use Rattle.verdict.specs.declared.Answer.{Answer}
 use Rattle.verdict.specs.declared.Verdict.{Verdict}
 use Rattle.verdict.specs.Places.{counted_by, free_size_of, places_of}
 
@@ -61,6 +61,16 @@ verdict_of c = verdict_by c.grid c.slots (balances_of c)
 -- what stands beside a refusal: code 20, not judged, which is no code of document 01; by 0 a caller who looks at the code alone would read "accepted"
 abbrev pub no_verdict : Verdict
 no_verdict = record { code = 20; block = 0; count = 0; largest = pos 0 }
+
+-- a refusal, or a verdict beside number 0
+pub record Answer : Type 0 where
+  pub refusal : Refusal
+  pub verdict : Verdict
+
+-- what the function's result says of both
+abbrev pub answer_in : Result Verdict Refused → Answer
+answer_in (Ok v) = record { refusal = none; verdict = v }
+answer_in (Err e) = record { refusal = refusal (number_of e) (block_of e); verdict = no_verdict }
 
 -- a refusal, or the verdict beside none
 abbrev pub answered : Refusal → Verdict → Answer

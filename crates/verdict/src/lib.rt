@@ -8,8 +8,7 @@ pub mod units;
 ghost use Rattle.std.specs.Prelude.{◌≡◌, ◌*◌, ◌≤◌};
 ghost use Rattle.grid.specs.Units.{most_blocks};
 ghost use Rattle.grid.specs.Place.{blocks_of};
-ghost use Rattle.slices.specs.Slices.{case_of};
-ghost use Rattle.wellformed.specs.Inner.{WellFormed};
+ghost use Rattle.slices.specs.Cases.{case_in};
 ghost use Rattle.books.specs.Inner.{Slotted, Watered, pair_of};
 ghost use Rattle.balance.specs.Inner.{Bounded};
 ghost use Rattle.verdict.specs.Ruling.{
@@ -19,6 +18,7 @@ ghost use Rattle.verdict.specs.Ruling.{
   by_balance,
   verdict_by,
   verdict_of,
+  answer_in,
   verdict_answer,
 };
 
@@ -27,9 +27,10 @@ use books::rows::ROW;
 use books::waters::fill_waters;
 use grid::Grid;
 use search::{count_places, first_place, largest};
-use slices::Refusal;
-use units::{DRY, FAILING, MOVED, NOT_JUDGED};
-use wellformed::check_slices;
+use slices::Case;
+use slices::refusal::Refusal;
+use units::{DRY, FAILING, MOVED};
+use wellformed::{WellFormedCase, check_slices};
 
 // "A verdict has the code, the first block concerned (0 if accepted), how many places fail .., and the largest balance without sign among
 // free places", litres a day. Blocks are counted from 1.
@@ -41,22 +42,8 @@ pub struct Verdict {
     pub largest: i64,
 }
 
-// A refusal, or a verdict beside number 0. The verdict beside a refusal has code 20, not judged, and is otherwise all 0.
-#[derive(Clone, Copy)]
-pub struct Answer {
-    pub refusal: Refusal,
-    pub verdict: Verdict,
-}
-
-// What stands beside a refusal: nothing is judged.
-pub const NO_VERDICT: Verdict = Verdict {
-    code: NOT_JUDGED,
-    block: 0,
-    count: 0,
-    largest: 0,
-};
-
 // The verdict 21 or 22, whose first place is given. Inner: slots and balances are in range, and the row holds their thicknesses.
+#[tactic(auto, using(crate::proofs::RulingLaws::first_place_short), unfolding(crate::specs::Ruling::concerning))]
 fn concerned(
     g: Grid,
     slots: &[i64],
@@ -80,17 +67,20 @@ fn concerned(
 }
 
 // "(23 fresh, 24 salt); else 0, accepted", by the first failing place. Inner: the place is one of a grid.
+#[tactic(auto, using(crate::proofs::RulingLaws::code_found))]
 fn code_of(first: usize) -> u64
     requires { first ≤ 2 * most_blocks }
     ensures { result ≡ code_of first }
 {
     if first == 0 {
-        return 0;
+        0
+    } else {
+        FAILING + ((first - 1) % 2) as u64
     }
-    FAILING + ((first - 1) % 2) as u64
 }
 
 // The verdict 23, 24 or 0. Inner: slots and balances are in range, and the row holds their thicknesses.
+#[tactic(auto, using(crate::proofs::RulingLaws::first_place_short), unfolding(crate::specs::Ruling::by_balance))]
 fn by_balance(g: Grid, slots: &[i64], waters: &[i64], balances: &[i64]) -> Verdict
     requires slotted { Slotted g slots.now }
     requires watered { Watered g slots.now waters.now }
@@ -108,6 +98,7 @@ fn by_balance(g: Grid, slots: &[i64], waters: &[i64], balances: &[i64]) -> Verdi
 
 // The verdict on a case whose thicknesses and balances stand in rows. Inner: slots and balances are in range, and the row holds their
 // thicknesses.
+#[tactic(auto, unfolding(crate::specs::Ruling::verdict_by))]
 pub fn verdict_of_rows(g: Grid, slots: &[i64], waters: &[i64], balances: &[i64]) -> Verdict
     requires slotted { Slotted g slots.now }
     requires watered { Watered g slots.now waters.now }
@@ -125,31 +116,31 @@ pub fn verdict_of_rows(g: Grid, slots: &[i64], waters: &[i64], balances: &[i64])
     by_balance(g, slots, waters, balances)
 }
 
-// The verdict on the heads proposed in a case. Thicknesses and balances of every block are worked out once, into two rows of two numbers to
-// a block. Inner: the case is well formed.
-pub fn verdict_of_case(g: Grid, columns: &[i64], rows: &[i64], slots: &[i64]) -> Verdict
-    requires { WellFormed (case_of g columns.now rows.now slots.now) }
-    ensures { result ≡ verdict_of (case_of g columns.now rows.now slots.now) }
+// The verdict on the heads proposed in a case that is refused nothing. Thicknesses and balances of every block are worked out once, into two rows of
+// two numbers to a block.
+pub fn verdict_of_case(well_formed: WellFormedCase<'_>) -> Verdict
+    ensures { result ≡ verdict_of (case_in well_formed.entry.case) }
 {
+    let case = well_formed.case;
     let mut waters = [0i64; ROW];
-    fill_waters(g, slots, &mut waters);
+    fill_waters(case.grid, case.slots, &mut waters);
     let mut balances = [0i64; ROW];
-    fill_balances(g, columns, rows, slots, &waters, &mut balances);
-    verdict_of_rows(g, slots, &waters, &balances)
+    fill_balances(
+        case.grid,
+        case.columns,
+        case.rows,
+        case.slots,
+        &waters,
+        &mut balances,
+    );
+    verdict_of_rows(case.grid, case.slots, &waters, &balances)
 }
 
 // The verdict on the heads proposed in a case in slices, or what the case is refused with, 3, 7, 4, 5, 6, 9 or 10, and the block that the
-// refusal names. `columns` and `rows` are the widths in metres. Any numbers, and slices of any length, are answered.
-pub fn verdict_of_slices(g: Grid, columns: &[i64], rows: &[i64], slots: &[i64]) -> Answer
-    ensures { result ≡ verdict_answer (case_of g columns.now rows.now slots.now) }
+// refusal names. Any numbers, and slices of any length, are answered.
+#[tactic(auto, using(crate::proofs::RulingLaws::answer_err, crate::proofs::RulingLaws::answer_ok), unfolding(crate::specs::Ruling::verdict_answer))]
+pub fn verdict_of_slices(case: Case<'_>) -> Result<Verdict, Refusal>
+    ensures { answer_in result ≡ verdict_answer (case_in case.entry) }
 {
-    let refusal = check_slices(g, columns, rows, slots);
-    if refusal.number != 0 {
-        return Answer {
-            refusal,
-            verdict: NO_VERDICT,
-        };
-    }
-    let verdict = verdict_of_case(g, columns, rows, slots);
-    Answer { refusal, verdict }
+    Ok(verdict_of_case(check_slices(case)?))
 }

@@ -8,7 +8,6 @@ ghost use Rattle.verdict.specs.Ruling.{first_place, count_of, largest_of};
 use super::places::{counted_at, free_size};
 use grid::Grid;
 use grid::place::blocks;
-use whole::greatest;
 
 // "The search names the first failing block": the first place that a code counts, counted from 1, two places to a block; 0 where it counts
 // none. Inner: slots and balances are in range, and the row holds their thicknesses.
@@ -38,11 +37,10 @@ pub fn count_places(g: Grid, slots: &[i64], waters: &[i64], balances: &[i64], co
     requires bounded { Bounded (blocks_of g) balances.now }
     ensures { result ≡ count_of g slots.now (pair_of balances.now) code }
 {
-    let places = 2 * blocks(g);
     let mut count = 0;
-    for place in 0..places {
+    for place in 0..2 * blocks(g) {
         if counted_at(g, slots, waters, balances, code, place / 2, place % 2) {
-            count = count + 1;
+            count += 1;
         }
     }
     count
@@ -54,10 +52,9 @@ pub fn largest(g: Grid, slots: &[i64], balances: &[i64]) -> i64
     requires bounded { Bounded (blocks_of g) balances.now }
     ensures { result ≡ largest_of g slots.now (pair_of balances.now) }
 {
-    let places = 2 * blocks(g);
     let mut most: i64 = 0;
-    for place in 0..places {
-        most = greatest(most, free_size(g, slots, balances, place));
+    for place in 0..2 * blocks(g) {
+        most = most.max(free_size(g, slots, balances, place));
     }
     most
 }

@@ -1,8 +1,5 @@
 // Verdict codes (document 01, "Balance, verdict, table").
 
-// Not judged: the code beside a refusal. Document 01 has no code there; 0 would also mean that the heads are accepted.
-pub const NOT_JUDGED: u64 = 20;
-
 // "21 if any fixed head moved from old to new".
 pub const MOVED: u64 = 21;
 

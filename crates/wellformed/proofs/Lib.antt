@@ -4,6 +4,7 @@ pub mod WidthsLaws
 pub mod LimitsLaws
 pub mod QuickLaws
 pub mod RoomLaws
+pub mod SpotLaws
 pub mod RefusedLaws
 pub mod WellformedTheorems
 pub mod WorkedTheorems

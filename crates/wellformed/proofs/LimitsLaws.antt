@@ -7,16 +7,20 @@ use native.Mathlib.Omega.{arith}
 use lib.Dec.{T, leb}
 use lib.IntN.{pos, ℤ}
 use lib.Signed.{◌≤ℤ◌, lt_z}
+use Rattle.std.specs.Prelude.{None}
+use Rattle.whole.specs.Search.{found_of}
 use Rattle.whole.proofs.OrderLaws.{≤ℤ_trans}
 use Rattle.whole.proofs.RangeLaws.{lt_false, not_above}
 use Rattle.whole.proofs.SearchLaws.{first_none, neither, none_first, not_left, not_right, not_second, second_not, true_is}
 use Rattle.grid.specs.Judging.{counts_hold}
 use Rattle.grid.specs.Place.{blocks_of, stride_of}
 use Rattle.grid.specs.Units.{next_row}
-use Rattle.slices.specs.declared.Refusal.{Refusal}
-use Rattle.slices.specs.Slices.{Case, contents_of, first_refusal, lent_of, or_else, room_holds, shape_of, unless}
-use Rattle.slices.specs.Inner.{Judged, judged_of, reaches_over}
-use Rattle.slices.proofs.SlicesLaws.{blames_none, first_append, here, judged_apart, judged_stands, later, none_apart, none_together, or_none, stands_judged}
+use Rattle.slices.specs.declared.Case.{Case as Lent}
+use Rattle.slices.specs.Cases.{case_in}
+use Rattle.slices.specs.Refusals.{Refusal}
+use Rattle.slices.specs.Slices.{Case, contents_of, first_refusal, lent_of, none, or_else, room_holds, shape_of, unless}
+use Rattle.slices.specs.Inner.{Judged, judged_lent, judged_of, reaches_over}
+use Rattle.slices.proofs.SlicesLaws.{blames_none, first_append, first_goes_on, first_stays, here, judged_apart, judged_stands, later, none_apart, none_together, or_none, stands_judged}
 use Rattle.block.specs.Fluids.{fresh, salt}
 use Rattle.block.specs.Geometry.{aquifer_top_of, k_of}
 use Rattle.flow.specs.declared.lateral.Behind.{Behind}
@@ -115,6 +119,16 @@ checked_stands c e =
       boundary = λ i l a. within_boundary c h.1 i l a;
     }
 
+-- And of one that is judged, where 9 and 10 found no block.
+pub limits_passed : (c : Case) → Judged c → found_of (first_at_fault c 9) ≡ None → found_of (first_at_fault c 10) ≡ None → WellFormed c
+unfolding limits_of first_refusal or_else
+limits_passed c judged h k =
+    checked_stands c (none_together (shape_of c ++ contents_of c) (limits_of c) (stands_judged c judged) (rw (found_none (first_at_fault c 9) h, found_none (first_at_fault c 10) k) refl))
+  where
+    found_none : (n : ℕ) → found_of n ≡ None → n ≡ 0
+    found_none zero e = refl
+    found_none (suc n) e = cc
+
 -- ---- and the other way round: a well-formed case is not refused
 
 module _ (c : Case) (formed : WellFormed c) (i : ℕ) (l : i < blocks_of c.grid) where
@@ -183,6 +197,15 @@ lent_stands c reaches e =
 -- and the other way round
 pub stands_lent : (c : Case) (reaches : Bool) → WellFormed c → T reaches → (checked_lent c reaches).number ≡ 0
 stands_lent c reaches formed t = ap (λ r. r.number) (lent_long c reaches t) ∙ stands_checked c formed
+
+-- judged step by step: a refusal by 3, 7, 4, 5 or 6 stays, and where they refuse nothing 9 and 10 decide
+module _ (c : Lent) (reaches : Bool) (r : Refusal) where
+  pub ranges_refuse : (r.number ≡ 0 → ⊥) → r ≡ judged_lent (case_in c) reaches → r ≡ checked_lent (case_in c) reaches
+  ranges_refuse some e = first_stays (lent_of (case_in c) reaches ++ contents_of (case_in c)) (limits_of (case_in c)) r e some
+
+  pub limits_decide : (d : Lent) → d ≡ c → none ≡ judged_lent (case_in c) reaches → r ≡ first_refusal (limits_of (case_in d)) → r ≡ checked_lent (case_in c) reaches
+  limits_decide d same e told =
+      first_goes_on (lent_of (case_in c) reaches ++ contents_of (case_in c)) (limits_of (case_in c)) none e r refl (rw same at told)
 
 -- In a well-formed case no face conducts beyond the limit, whatever of the two aquifers the fluid fills.
 pub face_passes :

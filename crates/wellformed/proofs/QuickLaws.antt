@@ -1,16 +1,21 @@
 -- A face that is far within the limit exceeds it in neither fluid. Assumes nothing.
 use mathlib.Core.Bool.{false, true}
 use mathlib.Core.List.{[], ◌∷◌}
-use mathlib.Core.Path.{◌≡◌, subst}
-use Prim.Native.Nat.{suc, zero, ℕ}
+use mathlib.Core.Path.{◌∙◌, ◌≡◌, ap₂, subst}
+use Prim.Native.Nat.{◌<◌, ◌^◌, suc, zero, ℕ}
 use native.Mathlib.Omega.{arith}
+use lib.Dec.{T}
 use lib.IntN.{◌*ℤ◌, ◌+ℤ◌, pos, ℤ}
-use lib.Signed.{◌<ℤ◌, ◌≤ℤ◌, le_z_yes}
+use lib.Signed.{◌<ℤ◌, ◌≤ℤ◌, le_z_yes, mag}
+use mir.Syntax.{w64}
+use mir.Val.{of_z, to_z}
+use Rattle.std.specs.Int.{int_max}
+use Rattle.whole.specs.Inner.{In}
 use Rattle.whole.specs.Whole.{floor_of, max_ℤ}
 use Rattle.whole.proofs.DivisionLaws.{floor-<}
 use Rattle.whole.proofs.LinearLaws.{#, from1, from2, signed}
-use Rattle.whole.proofs.OrderLaws.{max_ℤ_l, max_ℤ_r, mul_mono, ≤ℤ_trans}
-use Rattle.whole.proofs.RangeLaws.{leaf, lt_true, no_less, not_above, ranges}
+use Rattle.whole.proofs.OrderLaws.{greatest_is, max_ℤ_l, max_ℤ_r, mul_mono, ≤ℤ_trans}
+use Rattle.whole.proofs.RangeLaws.{answer, leaf, lt_true, no_less, not_above, ok, ranges, read}
 use Rattle.whole.proofs.RingLaws.{polynomials, ring}
 use Rattle.grid.specs.declared.Grid.{Grid}
 use Rattle.slots.specs.declared.Block.{Block}
@@ -85,3 +90,8 @@ module _ (g : Grid) (f : Face) (a b : Block) (h : Conducts g f a b) (quick : far
   pub far_neither : either_exceeds g f a b ≡ false
   unfolding either_exceeds
   far_neither = rw (within_limit fresh, within_limit salt)
+
+-- ---- the greater of two, as `a.max(b)` gives it
+module _ {l h a b : ℤ} (low : In l h a) (high : In l h b) (t : T (ok l h)) where
+  pub greater_told : {z : ℤ} → mag z < 2 ^ 63 → z ≡ int_max (to_z w64 (of_z w64 a)) (to_z w64 (of_z w64 b)) → to_z w64 (of_z w64 z) ≡ max_ℤ a b
+  greater_told m e = answer m (e ∙ ap₂ int_max (read low t) (read high t) ∙ greatest_is a b)

@@ -11,7 +11,7 @@ use Rattle.grid.specs.Inner.{Counted, Termed}
 use Rattle.grid.specs.Judging.{counts_hold, terms_hold}
 use Rattle.grid.specs.Place.{blocks_of}
 use Rattle.grid.proofs.JudgingLaws.{counted_counts, counts_counted, termed_terms, terms_termed}
-use Rattle.slices.specs.declared.Refusal.{Refusal}
+use Rattle.slices.specs.Refusals.{Refusal}
 use Rattle.slices.specs.Slices.{Case, contents_of, fault_of, first_refusal, lent_of, or_else, refusal, room_holds, shape_of, slots_fail, unless, widths_hold}
 use Rattle.slices.specs.Inner.{Judged, Roomy, judged_lent}
 use Rattle.slices.proofs.SlicesLaws.{by_block, by_test, contents_pass, first_goes_on, judged_joint, judged_stands, names_blames, none_blames, none_together, room_roomy, roomy_room, shape_passes, stands_judged}

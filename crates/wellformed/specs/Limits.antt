@@ -8,7 +8,7 @@ use Rattle.grid.specs.Place.{blocks_of, stride_of}
 use Rattle.grid.specs.Units.{above, next_column, next_row}
 use Rattle.slots.specs.declared.Block.{Block}
 use Rattle.slots.specs.Slots.{block_of}
-use Rattle.slices.specs.declared.Refusal.{Refusal}
+use Rattle.slices.specs.Refusals.{Refusal}
 use Rattle.slices.specs.Slices.{Case, blaming, contents_of, first_refusal, lent_of, shape_of}
 use Rattle.block.specs.Fluids.{fresh, salt}
 use Rattle.block.specs.Geometry.{aquifer_top_of, k_of}

@@ -9,6 +9,7 @@ use grid::place::{Place, has_next, stride};
 use slots::is_active;
 
 // Whether a block is joined to the next one along an axis. Inner: the block is inside, at its place, and the slots reach so far.
+#[tactic(auto, using(grid::proofs::PlaceLaws::next_told), unfolding(crate::specs::Links::live_of))]
 pub fn is_live(g: Grid, slots: &[i64], block: usize, place: Place, axis: usize) -> bool
     requires counted { Counted g }
     requires g_in_bounds { 16 * blocks_of g ≤ length slots.now }
@@ -16,10 +17,6 @@ pub fn is_live(g: Grid, slots: &[i64], block: usize, place: Place, axis: usize) 
     requires place_value { place ≡ place_of g block }
     ensures { result ≡ live_of g slots.now axis block }
 {
-    if has_next(g, place, axis) {
-        if is_active(slots, block) {
-            return is_active(slots, block + stride(g, axis));
-        }
-    }
-    false
+    has_next(g, place, axis)
+        && (is_active(slots, block) && is_active(slots, block + stride(g, axis)))
 }

@@ -44,6 +44,7 @@ pub fn face(columns: &[i64], rows: &[i64], place: Place, axis: usize) -> Face
 }
 
 // The area of a block, m². Inner: the place has widths.
+#[tactic(auto, unfolding(crate::specs::Widths::area_at))]
 pub fn area(columns: &[i64], rows: &[i64], place: Place) -> i64
     requires { Placed columns.now rows.now place }
     ensures { result ≡ area_at columns.now rows.now place }

@@ -1,13 +1,15 @@
 -- The order of ℤ: products, the lesser and the greater of two, a number that is held between two, and the range of a product.
 -- Assumes nothing.
-use mathlib.Core.Path.{◌≡◌, ap}
+use mathlib.Core.Path.{◌≡◌, ap, refl, sym, ◌∙◌}
 use mathlib.Core.Logic.{◌⊎◌, inl, inr, ⊎_elim}
 use Prim.Native.Nat.{ℕ, zero, suc, ◌+◌, ◌≤◌, ◌<◌}
 use native.Mathlib.Omega.{arith}
-use mathlib.Core.Bool.{not, true}
+use mathlib.Core.Bool.{false, not, true}
 use lib.Dec.{T, T_not, eqb→eq}
 use lib.IntN.{ℤ, pos, negsuc, neg_ℤ, nat_abs, ◌-ℤ◌, ◌*ℤ◌, *ℤ_comm}
-use lib.Signed.{◌≤ℤ◌, ◌<ℤ◌, le_z, le_z_yes, ≤ℤ_refl}
+use lib.Signed.{◌≤ℤ◌, ◌<ℤ◌, le_z, le_z_yes, lt_z, lt_z_no, lt_z_yes, ≤ℤ_refl}
+use borrow.Author.Tests.{ne_eqb}
+use Rattle.std.specs.Int.{int_min, int_max}
 use Rattle.whole.specs.Whole.{is_zero, min_ℤ, max_ℤ, clamp_of}
 use Rattle.whole.specs.Inner.{Abs}
 use Rattle.whole.proofs.Parts.{plus, minus, le_out, le_in, lt_in, cond_ind}
@@ -95,6 +97,16 @@ max_ℤ_right {a} {b} h = ≤ℤ_antisymm (max_ℤ-≤ a b b h (≤ℤ_refl b)) 
 pub max_ℤ_or : (a b : ℤ) → ((max_ℤ a b ≡ b) × (a ≤ℤ b)) ⊎ ((max_ℤ a b ≡ a) × (b ≤ℤ a))
 max_ℤ_or a b = ⊎_elim (λ h. inl (max_ℤ_right h, h)) (λ h. inr (max_ℤ_left (<ℤ-≤ℤ h), <ℤ-≤ℤ h)) (≤ℤ_or-< a b)
 
+-- ---- what the library's methods `a.min(b)` and `a.max(b)` answer, which make another test
+pub least_is : (a b : ℤ) → int_min a b ≡ min_ℤ a b
+least_is a b = cond_ind (lt_z b a) b a (λ z. z ≡ min_ℤ a b) (λ t. sym (min_ℤ_right (<ℤ-≤ℤ (lt_z_yes t)))) (λ t. sym (min_ℤ_left (lt_z_no t)))
+
+pub greatest_is : (a b : ℤ) → int_max a b ≡ max_ℤ a b
+greatest_is a b = cond_ind (lt_z b a) a b (λ z. z ≡ max_ℤ a b) (λ t. sym (max_ℤ_left (<ℤ-≤ℤ (lt_z_yes t)))) (λ t. sym (max_ℤ_right (lt_z_no t)))
+
+pub greatest_turned : (a b : ℤ) → int_max a b ≡ max_ℤ b a
+greatest_turned a b = cond_ind (lt_z b a) a b (λ z. z ≡ max_ℤ b a) (λ t. sym (max_ℤ_right (<ℤ-≤ℤ (lt_z_yes t)))) (λ t. sym (max_ℤ_left (lt_z_no t)))
+
 -- ---- a number that is held between two
 module _ (lo hi z : ℤ) where
   pub clamp_above : lo ≤ℤ clamp_of lo hi z
@@ -105,10 +117,22 @@ module _ (lo hi z : ℤ) where
   unfolding clamp_of
   clamp_below h = max_ℤ-≤ lo (min_ℤ z hi) hi h (min_ℤ_r z hi)
 
+  -- and so does the library's method, `z.clamp(lo, hi)`
+  pub clamp_is : int_max lo (int_min z hi) ≡ clamp_of lo hi z
+  unfolding clamp_of
+  clamp_is = greatest_is lo (int_min z hi) ∙ ap (max_ℤ lo) (least_is z hi)
+
 -- ---- zero
 pub zero_is : (z : ℤ) → T (is_zero z) → z ≡ pos 0
 zero_is (pos a) t = ap pos (eqb→eq a 0 t)
 zero_is (negsuc a) t = absurd t
+
+pub zero_yes : (z : ℤ) → z ≡ pos 0 → is_zero z ≡ true
+zero_yes z e = ap is_zero e
+
+pub zero_not : (z : ℤ) → (z ≡ pos 0 → ⊥) → is_zero z ≡ false
+zero_not (pos n) h = ne_eqb n 0 (λ e. h (ap pos e))
+zero_not (negsuc n) h = refl
 
 -- two numbers with nothing between them
 pub none_apart : (a b : ℤ) → T (is_zero (a -ℤ b)) → a ≡ b

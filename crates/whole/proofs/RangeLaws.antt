@@ -10,7 +10,8 @@ use mathlib.Core.Path.{◌≡◌, refl, sym, ap, ap₂, ◌∙◌, subst}
 use mathlib.Core.Bool.{Bool, true, false, not, cond, ◌&&◌}
 use Prim.Native.Nat.{ℕ, ◌-◌, ◌^◌, ◌<◌}
 use native.Mathlib.Omega.{arith}
-use lib.Dec.{T}
+use lib.Dec.{T, eqb}
+use borrow.Author.Tests.{eq-eqb, ne_eqb}
 use lib.IntN.{ℤ, pos, negsuc, neg_ℤ, ◌+ℤ◌, ◌-ℤ◌, ◌*ℤ◌, nat_abs, +ℤ_idl}
 use lib.Signed.{◌≤ℤ◌, ◌<ℤ◌, clash_ℤ, le_z, lt_z, le_z_yes, ≤ℤ_refl, mag, lt_z_yes, lt_z_no, non_neg, yes_non_neg}
 use mir.Syntax.{w64}
@@ -18,7 +19,7 @@ use mir.Val.{SFits, Fits, to_z, of_z}
 use mir.Facts.{Fits-nat_abs}
 use mir.ValLaws.{to_z-of_z}
 use Rattle.whole.specs.Inner.{In}
-use Rattle.whole.specs.Whole.{min_ℤ, max_ℤ, floor_of, cut_of}
+use Rattle.whole.specs.Whole.{is_zero, min_ℤ, max_ℤ, floor_of, cut_of}
 use Rattle.whole.proofs.SearchLaws.{both, holds}
 use Rattle.whole.proofs.LinearLaws.{linear, from1, from4, signed, #}
 use Rattle.whole.proofs.OrderLaws.{≤ℤ_trans, nle_lt, min_ℤ_l, min_ℤ_r, max_ℤ_l, max_ℤ_r, ≤-min_ℤ, max_ℤ-≤, mul_low, mul_high, mul_low_lem, mul_high_lem, neg_le}
@@ -325,6 +326,20 @@ positive_any {z} f e = sym (lt_bits (fits (b_pos 0) tt) f) ∙ e
 -- whether an i64 is below 0
 pub negative_any : {z : ℤ} {b : Bool} → SFits w64 z → lt_z (to_z w64 (of_z w64 z)) (pos 0) ≡ b → lt_z z (pos 0) ≡ b
 negative_any f e = sym (lt_bits f (fits (b_pos 0) tt)) ∙ e
+
+-- ---- equality of two i64, as the machine asks it of their bits; `a == 0` tells what `is_zero` does
+pub same_bits : {x y : ℤ} → SFits w64 x → SFits w64 y → of_z w64 x ≡ of_z w64 y → x ≡ y
+same_bits {x} {y} f g e = sym (to_z-of_z w64 x f) ∙ ap (to_z w64) e ∙ to_z-of_z w64 y g
+
+pub zero_bits : (z : ℤ) → SFits w64 z → eqb (of_z w64 z) 0 ≡ is_zero z
+zero_bits (pos n) f = refl
+zero_bits (negsuc n) f = ne_eqb (of_z w64 (negsuc n)) 0 (λ e. absurd (omega (arith, f.sfits)))
+
+pub zero_yes_bits : {z : ℤ} → SFits w64 z → of_z w64 z ≡ 0 → is_zero z ≡ true
+zero_yes_bits {z} f e = sym (zero_bits z f) ∙ eq-eqb (of_z w64 z) 0 e
+
+pub zero_not_bits : {z : ℤ} → SFits w64 z → (of_z w64 z ≡ 0 → ⊥) → is_zero z ≡ false
+zero_not_bits {z} f h = sym (zero_bits z f) ∙ ne_eqb (of_z w64 z) 0 h
 
 -- ---- the cast of a number that is not negative to an unsigned one
 pub unsign_ok : {a : ℤ} → pos 0 ≤ℤ a → SFits w64 a → T (non_neg (to_z w64 (of_z w64 a))) × Fits w64 (nat_abs (to_z w64 (of_z w64 a)))

@@ -2,12 +2,10 @@
 ghost use Rattle.std.specs.Prelude.{◌≡◌, ◌≤◌, length};
 ghost use Rattle.whole.specs.Lent.{over};
 
-// Some numbers over the front of a slice. Inner: it has room.
-pub fn copy_front(from: &[i64], to: &mut [i64])
+// Some values over the front of a slice. Inner: it has room.
+pub fn copy_front<T: Copy>(from: &[T], to: &mut [T])
     requires { length from.now ≤ length to.old }
     ensures { to.new ≡ over from.now to.old }
 {
-    for k in 0..from.len() {
-        to[k] = from[k];
-    }
+    to[..from.len()].copy_from_slice(from);
 }

@@ -14,12 +14,7 @@ pub fn floor_div(a: i64, d: i64) -> i64
     requires { pos 1 ≤ℤ d }
     ensures { result ≡ floor_of a d }
 {
-    if a < 0 {
-        // -1 - a fits whatever a is, where d - 1 - a would not.
-        -1 - (-1 - a) / d
-    } else {
-        a / d
-    }
+    a.div_euclid(d)
 }
 
 // "cut means toward zero": a / d. Inner: the divisor is 1 or more.
@@ -46,39 +41,40 @@ pub fn round_div(a: i64, d: i64) -> i64
 }
 
 // Whether a number is 0.
+#[tactic(auto, using(crate::proofs::RangeLaws::zero_bits))]
 pub fn is_zero(a: i64) -> bool
     ensures { result ≡ is_zero a }
 {
-    if a < 0 { false } else { a < 1 }
+    a == 0
 }
 
 // Whether both numbers are 0.
 pub fn both_zero(a: i64, b: i64) -> bool
     ensures { result ≡ (is_zero a && is_zero b) }
 {
-    if is_zero(a) {
-        return is_zero(b);
-    }
-    false
+    is_zero(a) && is_zero(b)
 }
 
 // The lesser of the two.
+#[tactic(auto, using(crate::proofs::OrderLaws::least_is))]
 pub fn least(a: i64, b: i64) -> i64
     ensures { result ≡ min_ℤ a b }
 {
-    if a <= b { a } else { b }
+    a.min(b)
 }
 
 // The greater of the two.
+#[tactic(auto, using(crate::proofs::OrderLaws::greatest_is))]
 pub fn greatest(a: i64, b: i64) -> i64
     ensures { result ≡ max_ℤ a b }
 {
-    if a <= b { b } else { a }
+    a.max(b)
 }
 
 // x held between low and high: x itself, or the end that it passes; low where the two are the wrong way round.
+#[tactic(auto, using(crate::proofs::OrderLaws::clamp_is))]
 pub fn clamp(x: i64, low: i64, high: i64) -> i64
     ensures { result ≡ clamp_of low high x }
 {
-    greatest(low, least(x, high))
+    low.max(x.min(high))
 }

@@ -3,13 +3,14 @@ ghost use Rattle.std.specs.Prelude.{◌≡◌, ◌≤◌, length};
 ghost use Rattle.whole.specs.Ranges.{in_range, all_within};
 
 // A lower and an upper end, both within.
-#[derive(Clone, Copy)]
+#[derive(Clone, Copy, Debug, PartialEq, Eq)]
 pub struct Range {
     pub lower: i64,
     pub upper: i64,
 }
 
 // Whether a number lies within its ends.
+#[tactic(auto, unfolding(crate::specs::Ranges::in_range))]
 pub fn in_range(range: Range, value: i64) -> bool
     ensures { result ≡ in_range range value }
 {
@@ -21,9 +22,8 @@ pub fn all_within(values: &[i64], count: usize, range: Range) -> bool
     requires { count ≤ length values.now }
     ensures { result ≡ all_within range values.now count }
 {
-    for k in 0..count {
-        let value = values[k];
-        if !in_range(range, value) {
+    for value in &values[..count] {
+        if !in_range(range, *value) {
             return false;
         }
     }

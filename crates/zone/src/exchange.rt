@@ -26,16 +26,14 @@ pub struct Crossing {
 }
 
 // Whether a link has "one side marked". Inner: the counts are in range and the marks reach to both sides.
+#[tactic(auto, unfolding(crate::specs::Inner::at_edge))]
 fn at_edge(g: Grid, marks: &[i64], block: usize, axis: usize) -> bool
     requires counted { Counted g }
     requires axis_in_bounds { block + stride_of g axis < length marks.now }
     ensures { result ≡ at_edge g (marked_of marks.now) axis block }
 {
     let high = is_marked(marks, block + stride(g, axis));
-    if is_marked(marks, block) {
-        return !high;
-    }
-    high
+    if is_marked(marks, block) { !high } else { high }
 }
 
 // What a link with one side marked brings to that side as a fluid, litres a day; 0 by any other link. Inner: the case is well formed, the row

@@ -37,6 +37,7 @@ const NOTHING: Own = Own {
 
 // The own terms of a marked active block in a fluid, litres a day; nothing of any other. Inner: the case is well formed, the row holds its
 // thicknesses, the marks reach over the grid, and the block is inside, at its place.
+#[tactic(auto, using(wellformed::proofs::LinksLaws::reach, crate::proofs::TermLaws::zone_active), unfolding(crate::specs::Holdings::own_in, books::specs::Bookkeeping::books_of))]
 pub fn own_in_zone(
     g: Grid,
     columns: &[i64],
@@ -56,9 +57,10 @@ pub fn own_in_zone(
     ensures { result ≡ own_in slots.now (books_of (case_of g columns.now rows.now slots.now) fluid) (marked_of marks.now) block }
 {
     if in_zone(slots, marks, block) {
-        return own_terms(g, columns, rows, slots, waters, block, place, fluid);
+        own_terms(g, columns, rows, slots, waters, block, place, fluid)
+    } else {
+        NOTHING
     }
-    NOTHING
 }
 
 // What a block's balance in a fluid gives to supply where its head is fixed, to error where it is free, litres a day. Inner: slots and balances
