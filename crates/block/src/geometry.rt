@@ -12,6 +12,7 @@ use super::density::{interface, salt_k};
 use super::units::FRESH;
 use grid::Grid;
 use slots::Block;
+use whole::clamp;
 
 // The levels that part a block's waters, ticks: salt water from the base to the interface Z, which is held, and fresh water from there to
 // the saturated top U.
@@ -48,7 +49,7 @@ fn saturated_top(g: Grid, block: Block, top: bool, heads: Fluids) -> i64
 {
     let top_of_aquifer = aquifer_top(block);
     if has_water_table(g, top) {
-        heads.fresh.clamp(block.base, top_of_aquifer)
+        clamp(heads.fresh, block.base, top_of_aquifer)
     } else {
         top_of_aquifer
     }
@@ -62,7 +63,7 @@ pub fn levels_of(g: Grid, block: Block, top: bool, heads: Fluids) -> Levels
     ensures { result ≡ levels_of g block top heads }
 {
     let saturated = saturated_top(g, block, top, heads);
-    let held = interface(g, heads).clamp(block.base, saturated);
+    let held = clamp(interface(g, heads), block.base, saturated);
     Levels {
         base: block.base,
         interface: held,

@@ -7,7 +7,7 @@ ghost use Rattle.block.specs.Wells.{length_within, lengths_of, is_dry, shares_of
 use super::geometry::Levels;
 use super::{Fluids, together};
 use slots::Block;
-use whole::cut_div;
+use whole::{cut_div, greatest, least};
 
 // The length in ticks that a block's screen has between two levels; 0 where it has none. Inner: the slots and levels are in range.
 fn length_within(block: Block, low: i64, high: i64) -> i64
@@ -16,7 +16,10 @@ fn length_within(block: Block, low: i64, high: i64) -> i64
     requires level_2 { Level high }
     ensures { result ≡ length_within block low high }
 {
-    (block.screen_top.min(high) - block.screen_bottom.max(low)).max(0)
+    greatest(
+        0,
+        least(block.screen_top, high) - greatest(block.screen_bottom, low),
+    )
 }
 
 // "the screen's lengths inside fresh [Z, U] and salt [base, Z]", ticks. Inner: the slots and levels are in range.

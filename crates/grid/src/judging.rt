@@ -7,6 +7,7 @@ use super::units::{
     LEAST_APART, LEAST_FRESH_WEIGHT, LEAST_SALT_WEIGHT, MOST_ACROSS, MOST_BLOCKS, MOST_DELTA,
     MOST_FRESH_WEIGHT, MOST_LAYERS, MOST_SALT_WEIGHT, MOST_STEP, MOST_TOLERANCE,
 };
+use whole::both_zero;
 use whole::ranges::{Range, in_range};
 
 // δ, whole.
@@ -73,7 +74,7 @@ pub fn density_holds(g: Grid) -> bool
     if g.delta == 0 {
         pair_holds(g.fresh_weight, g.salt_weight)
     } else {
-        in_range(DELTAS, g.delta) && g.fresh_weight == 0 && g.salt_weight == 0
+        in_range(DELTAS, g.delta) && both_zero(g.fresh_weight, g.salt_weight)
     }
 }
 

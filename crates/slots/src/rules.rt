@@ -8,6 +8,7 @@ ghost use Rattle.slots.specs.Inner.{Ends};
 use super::ranges::ends_hold;
 use super::units::SLOTS_EACH;
 use super::{Block, slots_at};
+use whole::both_zero;
 use whole::ranges::{Range, all_within, in_range};
 
 // 0 alone.
@@ -43,7 +44,7 @@ fn screens_hold(block: Block) -> bool
     ensures { result ≡ screens_hold block }
 {
     if block.pumpage == 0 {
-        block.screen_bottom == 0 && block.screen_top == 0
+        both_zero(block.screen_bottom, block.screen_top)
     } else {
         screen_within(block)
     }
@@ -107,7 +108,7 @@ fn boundary_holds(block: Block, top: bool) -> bool
     if is_open(block) {
         top && open_holds(block)
     } else {
-        block.level == 0 && block.boundary_leakance == 0
+        both_zero(block.level, block.boundary_leakance)
     }
 }
 
