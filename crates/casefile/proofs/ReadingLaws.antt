@@ -217,32 +217,30 @@ pub body_goes_on : (g : Grid) (file : List ℕ) (at : ℕ) → (ending_of (slots
 unfolding body_of end_checks first_refusal stored_of
 body_goes_on g file at z = ap (λ r. judging r (giving (case_from g file at))) (or_next (ending_of (slots_from g file at).run file) (first_refusal (limits_of (case_from g file at))) z)
 
--- the run over a file's body, where that over the columns or the rows is refused
+-- the run over a file's body at its end
 module _ (g : Grid) (file : List ℕ) (at : ℕ) where
-  pub rows_refused : (r : Refusal) → Refused r ≡ (rows_from g file at).run → Refused r ≡ (slots_from g file at).run
-  unfolding blocks_from
-  rows_refused r e = e ∙ sym (ap (λ (f : Filled). f.run) (blocks_stay (rows_from g file at).run g file 0 r (sym e) (blocks_of g) (omega arith)))
+  -- what is answered for a body, by what its run is refused with at its end
+  module _ {A : Type 0} (c : Case) (q : Result A Fault) (told : refusal_in q ≡ ending_of (slots_from g file at).run file) (same : (next : ℕ) → (slots_from g file at).run ≡ Done next → c ≡ case_from g file at) where
+    ends_well : (x : A) → q ≡ Ok x → (ending_of (slots_from g file at).run file).number ≡ 0
+    ends_well x e = ap (λ (r : Refusal). r.number) (sym told ∙ ap refusal_in e)
 
-  pub columns_refused : (r : Refusal) → Refused r ≡ (columns_from g file at).run → Refused r ≡ (slots_from g file at).run
-  unfolding fill_of
-  columns_refused r e = rows_refused r (ap (λ (run : Run). (fill_of run Widths file g.rows).run) e)
+    read_whole : (x : A) → q ≡ Ok x → c ≡ case_from g file at
+    read_whole x e = let done = body_done g file at (ends_well x e) in same done.0 done.1
 
-  -- what then is answered
-  pub body_refused : (e : Fault) → Refused (refusal_of e) ≡ (slots_from g file at).run → body_of g file at ≡ refusing (refusal_of e)
-  unfolding ending_of
-  body_refused e told = body_stays g file at (refusal_of e) (rw (← told) refl) (refused_some e)
+    pub body_ended : Follows q (body_of g file at) (λ (_ : A). stored_of c)
+    body_ended = go q refl
+      where
+        go : (p : Result A Fault) → q ≡ p → Follows p (body_of g file at) (λ (_ : A). stored_of c)
+        go (Ok x) e = rw (read_whole x e) (body_goes_on g file at (ends_well x e))
+        go (Err r) e = body_stays g file at (refusal_of r) (ap refusal_in (sym e) ∙ told) (refused_some r)
 
-  -- and what a body that was read to its end is answered with, by what 8 says
-  pub body_ended : {A : Type 0} (next : ℕ) (c : Case) (q : Result A Fault) → Done next ≡ (slots_from g file at).run → c ≡ case_from g file at → refusal_in q ≡ ending_of (Done next) file → Follows q (body_of g file at) (λ (_ : A). stored_of c)
-  body_ended next c (Ok x) done same told =
-      let none_left : (ending_of (slots_from g file at).run file).number ≡ 0 = rw (← done) (ap (λ (r : Refusal). r.number) (sym told)) in
-      rw same (body_goes_on g file at none_left)
-  body_ended next c (Err e) done same told = body_stays g file at (refusal_of e) (rw (← done) told) (refused_some e)
-
-  -- then it is judged
-  pub body_stands : {A : Type 0} (next : ℕ) (c : Case) (q : Result A Fault) → Counted g → Termed g → Done next ≡ (slots_from g file at).run → c ≡ case_from g file at → IfOk q (λ (_ : A). Judged c)
-  body_stands next c (Ok x) counted termed done same = rw same (case_judged g file at next counted termed (sym done))
-  body_stands next c (Err e) counted termed done same = tt
+    -- and what was read to its end is judged
+    pub body_stands : Counted g → Termed g → IfOk q (λ (_ : A). Judged c)
+    body_stands counted termed = go q refl
+      where
+        go : (p : Result A Fault) → q ≡ p → IfOk p (λ (_ : A). Judged c)
+        go (Ok x) e = let done = body_done g file at (ends_well x e) in rw (same done.0 done.1) (case_judged g file at done.0 counted termed done.1)
+        go (Err r) e = tt
 
 -- a run that is refused ends the reading, and one that is done lets it go on
 pub after_refused : (run : Run) (r : Refusal) (more : ℕ → Read) → run ≡ Refused r → after run more ≡ refusing r

@@ -14,7 +14,7 @@ ghost use Rattle.fields.specs.Inner.{Within};
 ghost use Rattle.casefile.specs.Reading.{answer_in, judging, counted_of, weighed_of, termed_of, body_of, after_density, after_counts, reading_of};
 ghost use Rattle.casefile.specs.Inner.{Follows, density_at, stored_of, terms_at};
 
-use fields::runs::{ended, fill, fill_blocks};
+use fields::runs::{ending, fill, fill_blocks};
 use fields::{MOST_SLOTS, Part};
 use grid::judging::density_holds;
 use grid::place::blocks;
@@ -88,7 +88,7 @@ fn read_counts(file: &[u8]) -> Result<Head, Refusal>
     ensures { (columns rows slots : List ℤ) → Follows result (reading_of file.now columns rows slots) (λ h. judging (first_refusal (shape_of (case_of h.grid columns rows slots))) (after_counts h.grid file.now h.next)) }
 {
     let mut counts = [0i64; COUNTS];
-    let next = fill(file, 0, Part::Counts, &mut counts)?;
+    let next = fill(file, Ok(0), Part::Counts, &mut counts)?;
     Ok(Head {
         grid: counted(&counts),
         next,
@@ -103,7 +103,7 @@ fn read_density(file: &[u8], head: Head) -> Result<Head, Refusal>
     ensures stands { IfOk result (λ h. T (density_holds h.grid)) }
 {
     let mut weights = [0i64; DENSITY];
-    let next = fill(file, head.next, Part::Density, &mut weights)?;
+    let next = fill(file, Ok(head.next), Part::Density, &mut weights)?;
     let grid = weighed(head.grid, &weights);
     if !density_holds(grid) {
         return Err(Refusal::Terms);
@@ -120,7 +120,7 @@ fn read_terms(file: &[u8], head: Head) -> Result<Head, Refusal>
     ensures stands { IfOk result (λ h. Termed h.grid) }
 {
     let mut terms = [0i64; TERMS];
-    let next = fill(file, head.next, Part::Terms, &mut terms)?;
+    let next = fill(file, Ok(head.next), Part::Terms, &mut terms)?;
     Ok(Head {
         grid: termed(head.grid, &terms),
         next,
@@ -144,10 +144,10 @@ fn read_parts(
     ensures read { Follows result (body_of head.grid file.now head.next) (λ _. stored_of (case_of head.grid columns.new rows.new slots.new)) }
     ensures judged { IfOk result (λ _. Judged (case_of head.grid columns.new rows.new slots.new)) }
 {
-    let at = fill(file, head.next, Part::Widths, columns)?;
-    let at = fill(file, at, Part::Widths, rows)?;
-    let at = fill_blocks(file, at, head.grid, slots)?;
-    ended(file, at)
+    let columns_read = fill(file, Ok(head.next), Part::Widths, columns);
+    let rows_read = fill(file, columns_read, Part::Widths, rows);
+    let run = fill_blocks(file, rows_read, head.grid, slots);
+    ending(file, run)
 }
 
 // What follows the terms, read into arrays of its own, "9, 10", and where nothing refuses it over the front of the lent slices. Inner: the record is in range

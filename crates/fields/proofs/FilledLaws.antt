@@ -417,6 +417,11 @@ module _ (from : Run) (g : Grid) (file : List ℕ) where
           let k = before (omega arith) in
           refused_more (blocks_from from g file m) r (suc m) (top_of g m) (ap (λ (f : Filled). f.run) k ∙ e) ∙ k
 
+  -- so one that goes on from a run that was refused reads none
+  pub blocks_ended : (r : Refusal) → from ≡ Refused r → (n : ℕ) → blocks_from from g file n ≡ record { run = Refused r; values = [] }
+  unfolding blocks_from
+  blocks_ended r e n = blocks_stay 0 r e n (omega arith) ∙ ap (λ (run : Run). record { run = run; values = [] }) e
+
   -- so a block that is refused ends the run
   pub blocks_refused : (n m at : ℕ) (top : Bool) (r : Refusal) → Done at ≡ (blocks_from from g file n).run → top ≡ top_of g n → Refused r ≡ (block_from (Done at) file (n + 1) top).run → n < m →
       ((blocks_from from g file m).run ≡ Refused r) × ((blocks_from from g file m).values ≡ (blocks_from from g file (n + 1)).values)

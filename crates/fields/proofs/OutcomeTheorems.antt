@@ -3,7 +3,7 @@
 use mathlib.Core.Path.{◌∙◌, refl, sym}
 use Rattle.whole.specs.Outcome.{OneResult}
 use Rattle.slices.proofs.SlicesLaws.{answers_same}
-use Rattle.fields.proofs.runs.ended.Reads.{Learnt as ended}
+use Rattle.fields.proofs.runs.ending.Reads.{Learnt as ending}
 
-pub one_outcome_ended : OneResult ended
-one_outcome_ended κs a z w e f p q = answers_same z w (λ x y h k. refl) (p ∙ sym q)
+pub one_outcome_ending : OneResult ending
+one_outcome_ending κs a z w e f p q = answers_same z w (λ x y h k. refl) (p ∙ sym q)

@@ -16,6 +16,11 @@ module _ (part : Part) (file : List ℕ) where
   unfolding fill_of
   fill_here at total = refl
 
+  -- one that goes on from a run that was refused
+  pub fill_ended : (r : Refusal) (total : ℕ) → fill_of (Refused r) part file total ≡ record { run = Refused r; values = [] }
+  unfolding fill_of
+  fill_ended r total = refl
+
   pub fill_none : (left at : ℕ) (done : List ℤ) → left ≤ 0 → fill_from part file left at done ≡ record { run = Done at; values = done }
   unfolding fill_from
   fill_none zero at done h = refl

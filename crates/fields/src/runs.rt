@@ -17,7 +17,7 @@ use slots::units::SLOTS_EACH;
 // As many numbers of a part as a slice has room for, from a place, and the place after them; where one is refused, those before it stand in the front of
 // the slice. Inner: there are at most 8,192.
 #[tactic(auto, using(crate::proofs::RunsLaws::fill_here, crate::proofs::RunsLaws::fill_none, crate::proofs::RunsLaws::fill_refused, whole::proofs::LentLaws::over_front))]
-pub fn fill(file: &[u8], at: usize, part: Part, out: &mut [i64]) -> Result<usize, Refusal>
+fn fill_from(file: &[u8], at: usize, part: Part, out: &mut [i64]) -> Result<usize, Refusal>
     requires { length out.old ≤ most_slots }
     ensures run { run_in result ≡ (fill_of (Done at) part file.now (length out.old)).run }
     ensures values { out.new ≡ over (fill_of (Done at) part file.now (length out.old)).values out.old }
@@ -29,6 +29,21 @@ pub fn fill(file: &[u8], at: usize, part: Part, out: &mut [i64]) -> Result<usize
         next = field.next;
     }
     Ok(next)
+}
+
+// The same from where another run ended; nothing where that was refused. Inner: there are at most 8,192.
+#[tactic(auto, using(crate::proofs::RunsLaws::fill_ended))]
+pub fn fill(
+    file: &[u8],
+    from: Result<usize, Refusal>,
+    part: Part,
+    out: &mut [i64],
+) -> Result<usize, Refusal>
+    requires { length out.old ≤ most_slots }
+    ensures run { run_in result ≡ (fill_of (run_in from) part file.now (length out.old)).run }
+    ensures values { out.new ≡ over (fill_of (run_in from) part file.now (length out.old)).values out.old }
+{
+    fill_from(file, from?, part, out)
 }
 
 // The slots of a block, counted from 1, into a slice, and then its rules: 6, "after its last number". Inner: the slice has room for sixteen.
@@ -44,7 +59,7 @@ fn fill_block(
     ensures run { run_in result ≡ (block_from (Done at) file.now block top).run }
     ensures values { out.new ≡ over (block_from (Done at) file.now block top).values out.old }
 {
-    let next = fill(file, at, Part::Slots { block }, out)?;
+    let next = fill_from(file, at, Part::Slots { block }, out)?;
     if !slots_hold(out, top) {
         return Err(Refusal::Slots { block });
     }
@@ -54,7 +69,7 @@ fn fill_block(
 // The slots of all blocks of a grid into a slice, and the place after them; where one is refused, those before it stand in the front of the slice. Inner:
 // the counts are in range and the slice has room.
 #[tactic(auto, unfolding(crate::specs::Runs::blocks_from))]
-pub fn fill_blocks(file: &[u8], at: usize, g: Grid, out: &mut [i64]) -> Result<usize, Refusal>
+fn fill_blocks_from(file: &[u8], at: usize, g: Grid, out: &mut [i64]) -> Result<usize, Refusal>
     requires counted { Counted g }
     requires roomy { 16 * blocks_of g ≤ length out.old }
     ensures run { run_in result ≡ (blocks_from (Done at) g file.now (blocks_of g)).run }
@@ -70,11 +85,28 @@ pub fn fill_blocks(file: &[u8], at: usize, g: Grid, out: &mut [i64]) -> Result<u
     Ok(next)
 }
 
-// 8: "bytes follow the last block", asked at the place after it.
-#[tactic(auto, unfolding(crate::specs::Runs::ending_of))]
-pub fn ended(file: &[u8], at: usize) -> Result<(), Refusal>
-    ensures { refusal_in result ≡ ending_of (Done at) file.now }
+// The same from where another run ended; nothing where that was refused. Inner: the counts are in range and the slice has room.
+#[tactic(auto, using(crate::proofs::FilledLaws::blocks_ended))]
+pub fn fill_blocks(
+    file: &[u8],
+    from: Result<usize, Refusal>,
+    g: Grid,
+    out: &mut [i64],
+) -> Result<usize, Refusal>
+    requires counted { Counted g }
+    requires roomy { 16 * blocks_of g ≤ length out.old }
+    ensures run { run_in result ≡ (blocks_from (run_in from) g file.now (blocks_of g)).run }
+    ensures values { out.new ≡ over (blocks_from (run_in from) g file.now (blocks_of g)).values out.old }
 {
+    fill_blocks_from(file, from?, g, out)
+}
+
+// What a run over the whole file is refused with, at the latest 8: "bytes follow the last block".
+#[tactic(auto, unfolding(crate::specs::Runs::ending_of))]
+pub fn ending(file: &[u8], run: Result<usize, Refusal>) -> Result<(), Refusal>
+    ensures { refusal_in result ≡ ending_of (run_in run) file.now }
+{
+    let at = run?;
     if at < file.len() {
         Err(Refusal::Excess)
     } else {

@@ -4,7 +4,7 @@ use Rattle.whole.specs.Lent.{over}
 use Rattle.grid.specs.Place.{blocks_of}
 use Rattle.fields.specs.Runs.{Done, block_from}
 use Rattle.fields.proofs.FilledLaws.{block_next, block_put, blocks_refused}
-use Rattle.fields.proofs.runs.fill_blocks.Goals as goal
+use Rattle.fields.proofs.runs.fill_blocks_from.Goals as goal
 
 pub returns-in_err-next-clause-run : goal.returns-in_err-next-clause-run
 returns-in_err-next-clause-run c =

@@ -1,7 +1,7 @@
 use Rattle.std.proofs.Common.{◌≡◌, ◌+◌, ◌-◌, ◌∙◌, FitsSigned, arith, length, refl, rules, sym, take, to_z-of_z, w64}
 use Rattle.whole.proofs.LentLaws.{stored_drop, stored_take}
 use Rattle.fields.proofs.RunsLaws.{fill_value}
-use Rattle.fields.proofs.runs.fill.Goals as goal
+use Rattle.fields.proofs.runs.fill_from.Goals as goal
 
 pub loop-k-preserved : goal.loop-k-preserved
 loop-k-preserved c =

@@ -1,7 +1,7 @@
 -- The whole run is what the rest of it gives after the numbers passed, and past them all is as it was.
 use Rattle.std.proofs.Common.{◌≡◌, ◌-◌, [], drop, length, take}
 use Rattle.fields.specs.Runs.{fill_from}
-use Rattle.fields.proofs.runs.fill.Given as goal
+use Rattle.fields.proofs.runs.fill_from.Given as goal
 
 abbrev pub invariant-loop-k : goal.invariant-loop-k
 invariant-loop-k l =

@@ -2,7 +2,7 @@
 use Rattle.std.proofs.Common.{◌≡◌}
 use Rattle.whole.specs.Lent.{over}
 use Rattle.fields.specs.Runs.{Done, blocks_from}
-use Rattle.fields.proofs.runs.fill_blocks.Given as goal
+use Rattle.fields.proofs.runs.fill_blocks_from.Given as goal
 
 abbrev pub invariant-loop-block : goal.invariant-loop-block
 invariant-loop-block l =
