@@ -4,7 +4,7 @@
 
 pub mod handed;
 
-ghost use Rattle.std.specs.Prelude.{[], ◌≡◌, ◌≤◌, length, IfOk};
+ghost use Rattle.std.specs.Prelude.{[], ◌≡◌, ◌≤◌, get_or, length, pos, IfOk};
 ghost use Rattle.std.specs.Result.{result_unwrap_or};
 ghost use Rattle.whole.specs.Lent.{over};
 ghost use Rattle.grid.specs.Inner.{Counted, Termed};
@@ -41,32 +41,28 @@ fn flag_of(z: i64) -> u64
     u64::try_from(z).unwrap_or(2)
 }
 
-// The record of a case by its numbers.
+// A number of a record by its place, 0 where it has none.
+fn number_at(row: &[i64], place: usize) -> i64
+    ensures { result ≡ get_or row.now place (pos 0) }
+{
+    row.get(place).copied().unwrap_or(0)
+}
+
+// The record of a case by its numbers; those that are not there count as 0.
 #[tactic(auto, unfolding(crate::specs::Crossing::grid_of))]
-pub fn grid_of(record: &[i64; RECORD_NUMBERS]) -> Grid
+pub fn grid_of(record: &[i64]) -> Grid
     ensures { result ≡ grid_of «record».now }
 {
-    let [
-        columns,
-        rows,
-        layers,
-        delta,
-        fresh_weight,
-        salt_weight,
-        flag,
-        step,
-        tolerance,
-    ] = *record;
     Grid {
-        columns: count_of(columns),
-        rows: count_of(rows),
-        layers: count_of(layers),
-        delta,
-        fresh_weight,
-        salt_weight,
-        flag: flag_of(flag),
-        step,
-        tolerance,
+        columns: count_of(number_at(record, 0)),
+        rows: count_of(number_at(record, 1)),
+        layers: count_of(number_at(record, 2)),
+        delta: number_at(record, 3),
+        fresh_weight: number_at(record, 4),
+        salt_weight: number_at(record, 5),
+        flag: flag_of(number_at(record, 6)),
+        step: number_at(record, 7),
+        tolerance: number_at(record, 8),
     }
 }
 
@@ -127,7 +123,25 @@ pub fn tell<T>(answer: &Result<T, Refusal>, block: &mut usize) -> u64
     }
 }
 
-// Hands over a refusal or an answer: "no lent slice changes by it". Inner: an answer that is handed over has room.
+// Hands over a refusal or a row of values: "no lent slice changes by it". Inner: values that are handed over have room.
+pub fn hand_row<T: Copy>(
+    told: Result<(), Refusal>,
+    values: &[T],
+    out: &mut [T],
+    block: &mut usize,
+) -> u64
+    requires { (refusal_in told).number ≡ 0 → length values.now ≤ length out.old }
+    ensures number { result ≡ (refusal_in told).number }
+    ensures block { block.new ≡ (refusal_in told).block }
+    ensures out { out.new ≡ over (handed (refusal_in told) values.now) out.old }
+{
+    if told.is_ok() {
+        copy_front(values, out);
+    }
+    tell(&told, block)
+}
+
+// Hands over a refusal or an answer of so many values. Inner: an answer that is handed over has room.
 pub fn hand<T: Copy, const N: usize>(
     answer: Result<[T; N], Refusal>,
     out: &mut [T],
@@ -138,8 +152,8 @@ pub fn hand<T: Copy, const N: usize>(
     ensures block { block.new ≡ (refusal_in answer).block }
     ensures out { out.new ≡ over (handed (refusal_in answer) (result_unwrap_or answer [])) out.old }
 {
-    if let Ok(values) = &answer {
-        copy_front(values, out);
+    match &answer {
+        Ok(values) => hand_row(Ok(()), values, out, block),
+        Err(refusal) => hand_row(Err(*refusal), &[], out, block),
     }
-    tell(&answer, block)
 }
