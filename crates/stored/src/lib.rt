@@ -4,6 +4,8 @@
 
 pub mod print;
 
+ghost use Rattle.std.specs.Prelude.{◌≡◌, ◌≤◌, IfOk, length, take};
+
 use grid::Grid;
 use numbers::signed;
 use reading::read_full;
@@ -13,12 +15,12 @@ use std::io;
 use std::io::{Read, Write};
 
 // A program runs so many entries of a batch at most.
-const MOST_ENTRIES: usize = 100_000;
+pub const MOST_ENTRIES: usize = 100_000;
 
 // Room for the widths of a stored case along an axis, and for its slots: twice what the greatest grid needs, and more.
-const WIDTHS_ROOM: usize = 1_024;
+pub const WIDTHS_ROOM: usize = 1_024;
 
-const SLOTS_ROOM: usize = 16_384;
+pub const SLOTS_ROOM: usize = 16_384;
 
 // The three slices of a case, as they are lent.
 #[derive(Drop)]
@@ -26,6 +28,26 @@ pub struct Lent<'a> {
     pub columns: &'a mut [i64],
     pub rows: &'a mut [i64],
     pub slots: &'a mut [i64],
+}
+
+impl<'a> Lent<'a> {
+    // Slices of the lengths that are next in a batch, each a front of one that is given.
+    pub fn next<R: Read>(
+        batch: &mut R,
+        columns: &'a mut [i64],
+        rows: &'a mut [i64],
+        slots: &'a mut [i64],
+    ) -> io::Result<Lent<'a>>
+        ensures columns { IfOk result (λ lent. length lent.columns.now ≤ length columns.old) }
+        ensures rows { IfOk result (λ lent. length lent.rows.now ≤ length rows.old) }
+        ensures slots { IfOk result (λ lent. length lent.slots.now ≤ length slots.old) }
+    {
+        Ok(Lent {
+            columns: next_part(batch, columns)?,
+            rows: next_part(batch, rows)?,
+            slots: next_part(batch, slots)?,
+        })
+    }
 }
 
 // Room for the three slices of a stored case.
@@ -53,11 +75,7 @@ impl Room {
             rows,
             slots,
         } = self;
-        Ok(Lent {
-            columns: next_part(batch, columns)?,
-            rows: next_part(batch, rows)?,
-            slots: next_part(batch, slots)?,
-        })
+        Lent::next(batch, columns, rows, slots)
     }
 
     // The case that is next in a batch, its columns having been read: its record, the lengths of its slices, and these.
@@ -108,7 +126,9 @@ fn next_signed<R: Read>(batch: &mut R) -> io::Result<i64> {
 }
 
 // The front of a slice, as many numbers as the next word of a batch says: all of them where it says more.
-pub fn next_part<'a, R: Read>(batch: &mut R, numbers: &'a mut [i64]) -> io::Result<&'a mut [i64]> {
+pub fn next_part<'a, R: Read>(batch: &mut R, numbers: &'a mut [i64]) -> io::Result<&'a mut [i64]>
+    ensures { IfOk result (λ part. (length part.now ≤ length numbers.old) × (part.now ≡ take (length part.now) numbers.old)) }
+{
     let count = (word_or_zero(batch)? as usize).min(numbers.len());
     Ok(&mut numbers[..count])
 }

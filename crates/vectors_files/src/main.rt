@@ -3,6 +3,8 @@
 
 mod reads;
 
+ghost use Rattle.std.specs.Prelude.{◌≤◌, IfOk, length};
+
 use printing::print_session;
 use reading::read_full;
 use reads::run_read;
@@ -15,8 +17,10 @@ use stored::{next_number, next_word, run_batch};
 const FILE_ROOM: usize = 65_536;
 
 // The next bytes of a batch, at the front of a slice: of a given length as far as there is room, and fewer where the batch ends.
-fn next_file<'a, R: Read>(batch: &mut R, length: u64, file: &'a mut [u8]) -> io::Result<&'a [u8]> {
-    let room = (length as usize).min(file.len());
+fn next_file<'a, R: Read>(batch: &mut R, count: u64, file: &'a mut [u8]) -> io::Result<&'a [u8]>
+    ensures { IfOk result (λ bytes. length bytes.now ≤ length file.old) }
+{
+    let room = (count as usize).min(file.len());
     let n = read_full(batch, &mut file[..room])?;
     Ok(&file[..n])
 }

@@ -6,7 +6,7 @@ use printing::{print_answer, print_row};
 use slices::Case;
 use std::io;
 use std::io::{Read, Write};
-use stored::{Lent, Room};
+use stored::{Lent, SLOTS_ROOM, WIDTHS_ROOM};
 
 // What every lent number is before a read. No file can hold it.
 const UNREAD: i64 = -9_000_000_000;
@@ -63,12 +63,14 @@ fn print_kept<W: Write>(
 
 // The next file of a batch, read into slices of the lengths that are stored with it: the answer, and how many of their numbers it left.
 pub fn run_read<R: Read, W: Write>(batch: &mut R, out: &mut W, length: u64) -> io::Result<()> {
-    let mut room = Room::filled(UNREAD);
+    let mut columns = [UNREAD; WIDTHS_ROOM];
+    let mut rows = [UNREAD; WIDTHS_ROOM];
+    let mut slots = [UNREAD; SLOTS_ROOM];
     let Lent {
         columns,
         rows,
         slots,
-    } = room.lend(batch)?;
+    } = Lent::next(batch, &mut columns, &mut rows, &mut slots)?;
     let mut file = [0u8; FILE_ROOM];
     let file = next_file(batch, length, &mut file)?;
     let answer = read_case(file, columns, rows, slots).map(|grid| Case {
