@@ -33,15 +33,15 @@ pub struct HandedCase<'a> {
 
 impl<'a> HandedCase<'a> {
     // The case, or 7 for a record that is too short: it has no counts to judge.
-    #[tactic(auto, using(crate::proofs::CrossingLaws::grid_front))]
+    #[inline(always)]
     fn case(self) -> Result<Case<'a>, Refusal>
         ensures { MatchResult result (λ c. (record_numbers ≤ length self.entry.record.now) × (c ≡ lent_of self.entry)) (λ e. (length self.entry.record.now < record_numbers) × (e ≡ Short)) }
     {
-        let Some(record) = self.record.first_chunk() else {
+        if self.record.len() < RECORD_NUMBERS {
             return Err(Refusal::Short);
-        };
+        }
         Ok(Case {
-            grid: grid_of(record),
+            grid: grid_of(self.record),
             columns: self.columns,
             rows: self.rows,
             slots: self.slots,
@@ -50,6 +50,7 @@ impl<'a> HandedCase<'a> {
 
     // What the case is refused with, 7 for the record first; `reaches` says whether all that is lent besides is long enough.
     #[tactic(auto, using(crate::proofs::CrossingLaws::case_short, crate::proofs::CrossingLaws::case_long))]
+    #[inline(always)]
     pub fn check(self, reaches: bool) -> Result<WellFormedCase<'a>, Refusal>
         ensures refusal { refusal_in result ≡ check_handed self.entry.record.now self.entry.columns.now self.entry.rows.now self.entry.slots.now reaches }
         ensures same { IfOk result (λ w. w.case ≡ lent_of self.entry) }

@@ -81,8 +81,10 @@ impl<'a> Case<'a> {
         None
     }
 
-    // 3, then 7: whether a case is there, its counts in range and its slices long enough.
+    // 3, then 7: whether a case is there, its counts in range and its slices long enough. Inlined, like what hands a case on, since each call would copy its
+    // fifteen words.
     #[tactic(auto, using(grid::proofs::JudgingLaws::counted_where), unfolding(crate::specs::Slices::shape_of, crate::specs::Slices::first_refusal, crate::specs::Slices::or_else))]
+    #[inline(always)]
     pub fn shape(&self) -> Result<(), Refusal>
         ensures { refusal_in result ≡ first_refusal (shape_of (case_in self.now)) }
     {
@@ -126,6 +128,7 @@ impl<'a> Case<'a> {
     // The first of 3, 7, 4, 5 and 6 that a case in slices is refused with, and the block that it names. `reaches` says whether what is lent besides is
     // long enough, and 7 is of that too. Any numbers, and slices of any length, are judged.
     #[tactic(auto, using(crate::proofs::SlicesLaws::judged_contents, crate::proofs::SlicesLaws::judged_shape, crate::proofs::SlicesLaws::judged_short, crate::proofs::SlicesLaws::refused_some))]
+    #[inline(always)]
     pub fn judge_ranges(self, reaches: bool) -> Result<JudgedCase<'a>, Refusal>
         ensures refusal { refusal_in result ≡ judged_lent (case_in self.entry) reaches }
         ensures same { IfOk result (λ j. j.case ≡ self.entry) }

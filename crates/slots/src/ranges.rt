@@ -92,7 +92,7 @@ pub fn ends_hold(part: &[i64]) -> bool
     requires { 16 ≤ length part.now }
     ensures { result ≡ ends_hold part.now }
 {
-    for (value, range) in part.iter().zip(RANGES.iter()) {
+    for (value, range) in part[..SLOTS_EACH].iter().zip(RANGES.iter()) {
         if !in_range(*range, *value) {
             return false;
         }

@@ -1,10 +1,12 @@
 -- What a block at its place brings: widths, slots within their ends, and the block across a live link. Assumes nothing.
-use mathlib.Core.Path.{◌≡◌}
-use mathlib.Core.Bool.{true}
+use mathlib.Core.Path.{◌≡◌, refl}
+use mathlib.Core.Bool.{Bool, ◌&&◌, cond, false, true}
 use Prim.Native.Nat.{◌*◌, ◌+◌, ◌<◌, ◌≤◌, ℕ}
+use lib.Dec.{eqb}
 use lib.ListN.{length}
 use Rattle.whole.proofs.SearchLaws.{holds}
-use Rattle.grid.specs.Place.{blocks_of, stride_of}
+use Rattle.grid.specs.Place.{blocks_of, next_of, stride_of}
+use Rattle.grid.specs.Units.{above}
 use Rattle.slots.specs.Inner.{Ends}
 use Rattle.slots.specs.Slots.{block_of}
 use Rattle.slices.specs.Cases.{case_in}
@@ -12,7 +14,7 @@ use Rattle.slices.specs.Slices.{Case}
 use Rattle.wellformed.specs.declared.spot.Spot.{Spot}
 use Rattle.wellformed.specs.Inner.{Conducts, Onward, Placed}
 use Rattle.wellformed.specs.Links.{active_of, live_of}
-use Rattle.wellformed.specs.Limits.{across_in, block_in}
+use Rattle.wellformed.specs.Limits.{across_in, at_fault, block_exceeds, block_in, overlaps}
 use Rattle.wellformed.specs.Widths.{face_of}
 use Rattle.wellformed.proofs.LimitsLaws.{conducts}
 use Rattle.wellformed.proofs.LinksLaws.{live_inside, live_low, live_next, reach}
@@ -44,3 +46,13 @@ module _ (s : Spot) where
 
     pub spot_conducts : d ≤ 1 → Conducts c.grid (face_of c d s.block) (block_in c s.block) (across_in c d s.block)
     spot_conducts h = conducts c s.judged.judged d s.block h s.inside (holds e)
+
+-- no inactive block is at fault
+pub fault_active : (c : Case) (number i : ℕ) → active_of c.slots i ≡ false → at_fault c number i ≡ false
+unfolding at_fault overlaps live_of block_exceeds
+fault_active c number i e = rw e (go (eqb number 9) (next_of c.grid above i) _)
+  where
+    go : (nine next lies : Bool) → cond nine ((next && false) && lies) false ≡ false
+    go true true lies = refl
+    go true false lies = refl
+    go false next lies = refl

@@ -43,6 +43,7 @@ pub fn judge_limits<'a>(judged: JudgedCase<'a>) -> Result<WellFormedCase<'a>, Re
 // What a case in slices is refused with where more is lent than the case itself, marks or room for an answer: `reaches` says whether all of that is
 // long enough, and where it is not, 7 comes in 7's place. Any numbers, and slices of any length, are judged.
 #[tactic(auto, using(crate::proofs::LimitsLaws::ranges_refuse, crate::proofs::LimitsLaws::limits_decide, slices::proofs::SlicesLaws::refused_some))]
+#[inline(always)]
 pub fn check_lent<'a>(case: Case<'a>, reaches: bool) -> Result<WellFormedCase<'a>, Refusal>
     ensures refusal { refusal_in result ≡ checked_lent (case_in case.entry) reaches }
     ensures same { IfOk result (λ w. w.case ≡ case.entry) }

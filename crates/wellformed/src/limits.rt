@@ -3,6 +3,7 @@ ghost use Rattle.std.specs.Prelude.{◌≡◌, true, ◌≤◌, ◌<◌, pos};
 ghost use Rattle.whole.specs.Inner.{In};
 ghost use Rattle.slots.specs.Units.{most_k, most_leakance, most_thickness};
 ghost use Rattle.flow.specs.Inner.{FaceIn};
+ghost use Rattle.grid.specs.Place.{blocks_of};
 ghost use Rattle.slices.specs.Cases.{case_in};
 ghost use Rattle.whole.specs.Search.{found_of};
 ghost use Rattle.flow.specs.Litres.{over_area_of};
@@ -148,20 +149,31 @@ impl<'a> Spot<'a> {
     }
 }
 
+// Whether a block, counted from 0, is at fault by 9, or by 10. Only an active one is: of the others no place is worked out. Inner: the block is inside.
+#[tactic(auto, using(crate::proofs::SpotLaws::fault_active))]
+fn is_at_fault(judged: JudgedCase<'_>, number: u64, block: usize) -> bool
+    requires { block < blocks_of judged.case.grid }
+    ensures { result ≡ at_fault (case_in judged.entry.case) number block }
+{
+    if !is_active(judged.case.slots, block) {
+        return false;
+    }
+    let spot = Spot {
+        judged,
+        block,
+        place: place_of(judged.case.grid, block),
+    };
+    spot.at_fault(number)
+}
+
 // The first block at fault by 9, or by 10, counted from 1.
 #[tactic(auto, unfolding(crate::specs::Limits::first_at_fault))]
 pub fn first_at_fault(judged: JudgedCase<'_>, number: u64) -> Option<usize>
     ensures { result ≡ found_of (first_at_fault (case_in judged.entry.case) number) }
 {
-    let grid = judged.case.grid;
-    let total = blocks(grid);
+    let total = blocks(judged.case.grid);
     for block in 0..total {
-        let spot = Spot {
-            judged,
-            block,
-            place: place_of(grid, block),
-        };
-        if spot.at_fault(number) {
+        if is_at_fault(judged, number, block) {
             return Some(block + 1);
         }
     }
