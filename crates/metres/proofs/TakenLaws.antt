@@ -29,7 +29,7 @@ use Rattle.metres.proofs.ShownLaws.{value_finite}
 -- ---- the size by a value
 
 -- the size of a double that is a / c without sign
-size_at : (x : Float) (s : Bool) (a c : ℕ) → 0 < c → HasValue x s a c → ticks_in x ≡ closest (a * 4096) c
+pub size_at : (x : Float) (s : Bool) (a c : ℕ) → 0 < c → HasValue x s a c → ticks_in x ≡ closest (a * 4096) c
 unfolding ticks_in
 size_at nan s a c C h = absurd h
 size_at (inf t) s a c C h = absurd h
@@ -38,7 +38,7 @@ size_at (fin t m e) s a c C h =
     (mul_right_comm (m * up e) 4096 c ∙ ap (λ (x : ℕ). x * 4096) h.1 ∙ mul_right_comm a (down e) 4096)
 
 -- and its tick
-tick_at : (x : Float) (s : Bool) (a c : ℕ) → HasValue x s a c → tick_of x ≡ signed_by s (ticks_in x)
+pub tick_at : (x : Float) (s : Bool) (a c : ℕ) → HasValue x s a c → tick_of x ≡ signed_by s (ticks_in x)
 unfolding tick_of
 tick_at nan s a c h = absurd h
 tick_at (inf t) s a c h = absurd h
@@ -176,7 +176,7 @@ far_refused most m s (suc j) t h = go (eqb (suc j) 2047) (eqb t 0)
 
 -- ---- by the bits
 
-digits_below : (b : ℕ) → digits_of b < 2 ^ 53
+pub digits_below : (b : ℕ) → digits_of b < 2 ^ 53
 digits_below b = with_lead (mod-lt b (pow_pos 52))
 
 -- 1 shifted up by as many places as a field between the two asks for
@@ -184,7 +184,7 @@ module _ (x : ℕ) (l : near < x) where
   places : 1063 - x ≤ 53
   places = omega (arith, l)
 
-  unit_is : 1 * 2 ^ (1063 - x) % 2 ^ 64 ≡ 2 ^ (1063 - x)
+  pub unit_is : 1 * 2 ^ (1063 - x) % 2 ^ 64 ≡ 2 ^ (1063 - x)
   unit_is =
       let room : 53 < 64 = lit≤ tt in
       ap (λ (k : ℕ). k % 2 ^ 64) (one-mul (2 ^ (1063 - x))) ∙ mod-eq_of_lt (lt_of_le_of_lt (pow_mono places) (pow-lt room))
@@ -200,7 +200,7 @@ module _ (b : ℕ) where
   pub size_near : field_of b ≤ near → 0 ≡ ticks_in (of_bits binary64 b)
   size_near h = sym (ap ticks_in fields_are ∙ near_none (leb (2 ^ 63) b) (field_of b) (b % 2 ^ 52) (mod-lt b (pow_pos 52)) h)
 
-  size_between : near < field_of b → field_of b < far → closest (digits_of b) (2 ^ (1063 - field_of b)) ≡ ticks_in (of_bits binary64 b)
+  pub size_between : near < field_of b → field_of b < far → closest (digits_of b) (2 ^ (1063 - field_of b)) ≡ ticks_in (of_bits binary64 b)
   size_between l h = sym (ap ticks_in fields_are ∙ between_them (leb (2 ^ 63) b) (field_of b) (b % 2 ^ 52) l h)
 
   pub size_told : near < field_of b → field_of b < far → closest (digits_of b) (1 * 2 ^ (1063 - field_of b) % 2 ^ 64) ≡ ticks_in (of_bits binary64 b)
@@ -210,7 +210,7 @@ module _ (b : ℕ) where
   taken_far most m h = ap (is_taken most) fields_are ∙ far_refused most m (leb (2 ^ 63) b) (field_of b) (b % 2 ^ 52) h
 
   module _ (h : field_of b < far) where
-    tick_signed : tick_of (of_bits binary64 b) ≡ signed_by (leb (2 ^ 63) b) (ticks_in (of_bits binary64 b))
+    pub tick_signed : tick_of (of_bits binary64 b) ≡ signed_by (leb (2 ^ 63) b) (ticks_in (of_bits binary64 b))
     tick_signed = subst (λ y. tick_of y ≡ signed_by (leb (2 ^ 63) b) (ticks_in y)) (sym fields_are) (tick_plain (leb (2 ^ 63) b) (field_of b) (b % 2 ^ 52) (omega (arith, h)))
 
     pub taken_by_tick : (most : ℤ) → is_taken most (of_bits binary64 b) ≡ passes most (tick_of (of_bits binary64 b))
