@@ -36,8 +36,8 @@ use Rattle.fields.specs.declared.Part.{Part}
 use Rattle.fields.specs.declared.Part.TheVariants.{Counts, Density, Terms, Widths}
 use Rattle.fields.specs.Inner.{Within}
 use Rattle.fields.specs.Fields.{ends_of, record_range, refusal_of}
-use Rattle.fields.specs.Runs.{Done, Filled, Refused, Run, blocks_from, ending_of, fill_of}
-use Rattle.fields.proofs.FilledLaws.{Early, Numbered, Telling, counts_sent, blocks_before, blocks_hold, blocks_length, blocks_stay, blocks_telling, done_before, done_numbered, done_telling, early_numbered, ended_done, fill_of_length, fill_of_numbered, fill_of_telling, fill_of_whole, fill_within, number_in, terms_sent, widths_sent}
+use Rattle.fields.specs.Runs.{Done, Refused, Run, ending_of, fill_of}
+use Rattle.fields.proofs.FilledLaws.{Early, Numbered, Telling, counts_sent, blocks_before, blocks_hold, blocks_length, blocks_telling, done_before, done_numbered, done_telling, early_numbered, ended_done, fill_of_length, fill_of_numbered, fill_of_telling, fill_of_whole, fill_within, number_in, terms_sent, widths_sent}
 use Rattle.casefile.specs.Reading.{Read, giving, after, after_counts, after_density, body_of, case_from, columns_from, counted_of, end_checks, judging, reading_of, refusing, rows_from, slots_from, termed_of, weighed_of}
 use Rattle.casefile.specs.Inner.{Follows, counts_at, density_at, stored_of, terms_at}
 
