@@ -36,8 +36,8 @@ use Rattle.fields.specs.declared.Part.{Part}
 use Rattle.fields.specs.declared.Part.TheVariants.{Counts, Density, Terms, Widths}
 use Rattle.fields.specs.Inner.{Within}
 use Rattle.fields.specs.Fields.{ends_of, record_range, refusal_of}
-use Rattle.fields.specs.Runs.{Done, Refused, Run, ending_of, fill_of}
-use Rattle.fields.proofs.FilledLaws.{Early, Numbered, Telling, counts_sent, blocks_before, blocks_hold, blocks_length, blocks_telling, done_before, done_numbered, done_telling, early_numbered, ended_done, fill_of_length, fill_of_numbered, fill_of_telling, fill_of_whole, fill_within, number_in, terms_sent, widths_sent}
+use Rattle.fields.specs.Runs.{Done, Filled, Refused, Run, blocks_from, ending_of, fill_of}
+use Rattle.fields.proofs.FilledLaws.{Early, Numbered, Telling, counts_sent, blocks_before, blocks_hold, blocks_length, blocks_stay, blocks_telling, done_before, done_numbered, done_telling, early_numbered, ended_done, fill_of_length, fill_of_numbered, fill_of_telling, fill_of_whole, fill_within, number_in, terms_sent, widths_sent}
 use Rattle.casefile.specs.Reading.{Read, giving, after, after_counts, after_density, body_of, case_from, columns_from, counted_of, end_checks, judging, reading_of, refusing, rows_from, slots_from, termed_of, weighed_of}
 use Rattle.casefile.specs.Inner.{Follows, counts_at, density_at, stored_of, terms_at}
 
@@ -217,8 +217,26 @@ pub body_goes_on : (g : Grid) (file : List ℕ) (at : ℕ) → (ending_of (slots
 unfolding body_of end_checks first_refusal stored_of
 body_goes_on g file at z = ap (λ r. judging r (giving (case_from g file at))) (or_next (ending_of (slots_from g file at).run file) (first_refusal (limits_of (case_from g file at))) z)
 
--- the run over a file's body at its end
+-- the run over a file's body, where that over the columns or the rows is refused
 module _ (g : Grid) (file : List ℕ) (at : ℕ) where
+  pub rows_refused : (r : Refusal) → Refused r ≡ (rows_from g file at).run → Refused r ≡ (slots_from g file at).run
+  unfolding blocks_from
+  rows_refused r e = e ∙ sym (ap (λ (f : Filled). f.run) (blocks_stay (rows_from g file at).run g file 0 r (sym e) (blocks_of g) (omega arith)))
+
+  pub columns_refused : (r : Refusal) → Refused r ≡ (columns_from g file at).run → Refused r ≡ (slots_from g file at).run
+  unfolding fill_of
+  columns_refused r e = rows_refused r (ap (λ (run : Run). (fill_of run Widths file g.rows).run) e)
+
+  -- what then is answered
+  pub body_refused : (e : Fault) → Refused (refusal_of e) ≡ (slots_from g file at).run → body_of g file at ≡ refusing (refusal_of e)
+  unfolding ending_of
+  body_refused e told = body_stays g file at (refusal_of e) (rw (← told) refl) (refused_some e)
+
+  -- a body that was read to its end is judged, whatever it is answered with
+  pub body_stands : {A : Type 0} (next : ℕ) (c : Case) (q : Result A Fault) → Counted g → Termed g → Done next ≡ (slots_from g file at).run → c ≡ case_from g file at → IfOk q (λ (_ : A). Judged c)
+  body_stands next c (Ok x) counted termed done same = rw same (case_judged g file at next counted termed (sym done))
+  body_stands next c (Err e) counted termed done same = tt
+
   -- what is answered for a body, by what its run is refused with at its end
   module _ {A : Type 0} (c : Case) (q : Result A Fault) (told : refusal_in q ≡ ending_of (slots_from g file at).run file) (same : (next : ℕ) → (slots_from g file at).run ≡ Done next → c ≡ case_from g file at) where
     ends_well : (x : A) → q ≡ Ok x → (ending_of (slots_from g file at).run file).number ≡ 0
@@ -235,8 +253,8 @@ module _ (g : Grid) (file : List ℕ) (at : ℕ) where
         go (Err r) e = body_stays g file at (refusal_of r) (ap refusal_in (sym e) ∙ told) (refused_some r)
 
     -- and what was read to its end is judged
-    pub body_stands : Counted g → Termed g → IfOk q (λ (_ : A). Judged c)
-    body_stands counted termed = go q refl
+    pub ended_stands : Counted g → Termed g → IfOk q (λ (_ : A). Judged c)
+    ended_stands counted termed = go q refl
       where
         go : (p : Result A Fault) → q ≡ p → IfOk p (λ (_ : A). Judged c)
         go (Ok x) e = let done = body_done g file at (ends_well x e) in rw (same done.0 done.1) (case_judged g file at done.0 counted termed done.1)

@@ -5,10 +5,12 @@ use mathlib.Core.Path.{◌∙◌, ◌≡◌, ap, refl, sym}
 use Prim.Native.Nat.{◌<◌, ◌≤◌, suc, zero, ℕ}
 use native.Mathlib.Omega.{arith}
 use lib.Dec.{T, eqb, leb, leb→le, ltb}
-use lib.IntN.{ℤ}
-use lib.ListN.{length}
+use lib.IntN.{pos, ℤ}
+use lib.ListN.{get_or, length}
 use borrow.Author.Tests.{eqb-true, le-leb, leb-true, lt-leb, ne_eqb}
 use Rattle.std.specs.Prelude.{Err}
+use Rattle.std.specs.Array.{IsFirstChunk}
+use Rattle.std.proofs.lemmas.List.{get_or-take}
 use Rattle.whole.specs.Lent.{over}
 use Rattle.whole.proofs.SearchLaws.{both, cond_both, first_most}
 use Rattle.whole.proofs.SumLaws.{count_most}
@@ -39,9 +41,28 @@ use Rattle.casefile.specs.Reading.{Read, reading_of, refusing as unread}
 use Rattle.casefile.proofs.CasefileTheorems.{read_passes}
 use Rattle.crossing.specs.declared.handed.HandedCase.{HandedCase}
 use Rattle.crossing.specs.Inner.{Small, lent_of}
-use Rattle.crossing.specs.Crossing.{case_in, check_handed, grid_of, read_handed, report_handed, short, table_handed, verdict_handed}
+use Rattle.crossing.specs.Crossing.{case_in, check_handed, count_in, flag_in, grid_of, read_handed, report_handed, short, table_handed, verdict_handed}
 
 -- ---- a case that is handed over
+
+-- a record is told by its first numbers
+pub grid_front : (row chunk : List ℤ) → IsFirstChunk row chunk record_numbers → grid_of chunk ≡ grid_of row
+unfolding grid_of
+grid_front row chunk h =
+    λ i. record {
+      columns = count_in (at 0 (omega arith) i);
+      rows = count_in (at 1 (omega arith) i);
+      layers = count_in (at 2 (omega arith) i);
+      delta = at 3 (omega arith) i;
+      fresh_weight = at 4 (omega arith) i;
+      salt_weight = at 5 (omega arith) i;
+      flag = flag_in (at 6 (omega arith) i);
+      step = at 7 (omega arith) i;
+      tolerance = at 8 (omega arith) i;
+    }
+  where
+    at : (k : ℕ) → k < record_numbers → get_or chunk k (pos 0) ≡ get_or row k (pos 0)
+    at k l = rw h.same (get_or-take record_numbers row k (pos 0) l)
 
 module _ (row columns rows slots : List ℤ) where
   module _ (reaches : Bool) where

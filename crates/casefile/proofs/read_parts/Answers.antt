@@ -3,7 +3,7 @@ use Rattle.slices.specs.Slices.{case_of}
 use Rattle.slices.specs.Refusals.{refusal_in}
 use Rattle.fields.specs.Runs.{Done, ending_of}
 use Rattle.casefile.specs.Reading.{case_from, slots_from}
-use Rattle.casefile.proofs.ReadingLaws.{body_case, body_ended, body_stands}
+use Rattle.casefile.proofs.ReadingLaws.{body_case, body_ended, ended_stands}
 use Rattle.casefile.proofs.read_parts.Goals as goal
 use Rattle.casefile.proofs.read_parts.Goals.{After-ending}
 
@@ -31,4 +31,4 @@ pub returns-clause-read : goal.returns-clause-read
 returns-clause-read c = body_ended c.args.head.grid c.args.file.now c.args.head.next _ c.ending.result (told c) (same c)
 
 pub returns-clause-judged : goal.returns-clause-judged
-returns-clause-judged c = body_stands c.args.head.grid c.args.file.now c.args.head.next _ c.ending.result (told c) (same c) c.requires.counted c.requires.termed
+returns-clause-judged c = ended_stands c.args.head.grid c.args.file.now c.args.head.next _ c.ending.result (told c) (same c) c.requires.counted c.requires.termed
